@@ -1,0 +1,1 @@
+"""The text of house modules: reading it into bytes, writing bytes as text, and explaining answers."""

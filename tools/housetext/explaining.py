@@ -1,0 +1,127 @@
+"""An answer of `turn` in plain words: the number, the method, the instruction, and what stood on the stack."""
+
+import re
+
+from .disassemble import CodeLines, Text, Variables
+from .meanings import CHECK, LOADING, MEANINGS, RUN
+from .names import Names
+from .records import LOCAL, METHOD, PARAMETER, TYPES, split_input
+from .second_opinion import second_opinion
+from .words import BITS, write_real
+
+LINES_BEFORE = 3
+
+
+class Source:
+    """A module with its names and, where it was assembled from a text, the lines of the text."""
+
+    def __init__(self, data, names=None, record_lines=None, code_lines=None):
+        _, self.tables, self.code = split_input(data)
+        self.names = names or Names()
+        self.record_lines = record_lines or {}
+        self.code_lines = code_lines or {}
+        self.text = Text(self.tables, self.code, self.names, False)
+        self.naming = self.text.naming
+        self.methods = [record for record in self.text.records if record.kind == METHOD]
+
+
+def read_answer(line):
+    """The number, method, offset, steps and value of a line of `turn`; None where it isn't one."""
+    words = line.split()
+    if len(words) != 5 or not all(word.isascii() and word.isdigit() for word in words[:4]):
+        return None
+    return [int(word) for word in words[:4]] + words[4:]
+
+
+def explain(source, answer):
+    """The lines that explain an answer."""
+    number, method, offset, steps, value = answer
+    lines = [f"Number {number}: {MEANINGS.get(number, 'no meaning is known for this number')}."]
+    if number == 0:
+        lines.append(f"It handed back {value_words(source, method, value)} after {steps} steps.")
+    elif number in LOADING:
+        return lines + record_lines(source, offset)
+    elif number in RUN:
+        lines.append(f"Steps before it: {steps}.")
+    if method == 0:
+        return lines
+    if method > len(source.methods):
+        return lines + [f"This module has no method {method}."]
+    lines += place_lines(source, method, offset)
+    return lines + stack_lines(source, number, method, offset)
+
+
+def value_words(source, method, value):
+    """The value handed back; an F in decimal too."""
+    returns_real = 1 <= method <= len(source.methods) and TYPES[source.methods[method - 1].body[2]:][:1] == ["F"]
+    if value == "-":
+        return "nothing"
+    return f"{value}, which is the F {write_real(int(value, 16))}," if returns_real and BITS.match("0x" + value) else value
+
+
+def record_lines(source, offset):
+    """The record at a place in the tables."""
+    if offset >= len(source.tables):
+        return [f"Place {offset}: the end of the tables."]
+    line = f", line {source.record_lines[offset]} of the text" if offset in source.record_lines else ""
+    text = Text(source.tables, source.code, source.names, False)
+    for record in text.records:
+        text.rows[record.kind] += 1
+        if record.kind == METHOD:
+            text.variables = Variables(text.naming, text.rows[METHOD], record.body[1])
+        words = text.line(record).strip()
+        if record.offset == offset:
+            return [f"Record at place {offset} of the tables{line}: {words}"]
+    return [f"Record at place {offset} of the tables{line}: bytes {source.tables[offset:offset + 12].hex(' ').upper()}"]
+
+
+def place_lines(source, method, offset):
+    """The method and the instruction at an offset, with a few instructions before it."""
+    record = source.methods[method - 1]
+    start, length = record.code_part()
+    code = source.code[start:start + length]
+    lines = [f"Method {method}: {source.naming.members[METHOD][method]}."]
+    if offset >= len(code):
+        return lines + [f"Offset {offset}: past the code, which has {len(code)} bytes."]
+    where = f", line {source.code_lines[start + offset]} of the text" if start + offset in source.code_lines else ""
+    listing = CodeLines(source.naming, code, source.names.labels(method), variables_of(source, method))
+    index = next((index for index, (at, _) in enumerate(listing.items) if at == offset), None)
+    if index is None:
+        return lines + [f"Offset {offset}{where}: inside another instruction; read from there it is"] + inside_lines(source, code, offset)
+    lines.append(f"Offset {offset}{where}:")
+    for at, form in listing.items[max(0, index - LINES_BEFORE):index + 1]:
+        words = " ".join([form.mnemonic] + listing.operand_words(form, at)) if form else f".byte {code[at]:02X}"
+        lines.append(f"{'  ->' if at == offset else '    '} {at:5}  {words}")
+    return lines
+
+
+def inside_lines(source, code, offset):
+    """The instruction that stands at an offset inside another one."""
+    listing = CodeLines(source.naming, code[offset:], {}, None)
+    form = listing.items[0][1]
+    words = " ".join([form.mnemonic] + listing.operand_words(form, 0)) if form else f".byte {code[offset]:02X}"
+    return [f"  -> {offset:5}  {words}"]
+
+
+def variables_of(source, method):
+    """The arguments and locals of a method."""
+    record = source.methods[method - 1]
+    variables = Variables(source.naming, method, record.body[1])
+    following = source.text.records[source.text.records.index(record) + 1:]
+    for record in following:
+        if record.kind == METHOD:
+            break
+        if record.kind in (PARAMETER, LOCAL):
+            variables.declare(record.kind)
+    return variables
+
+
+def stack_lines(source, number, method, offset):
+    """What the second implementation adds, with classes by name."""
+    if number not in CHECK and number not in RUN:
+        return []
+    opinion = second_opinion(source.tables, source.code)
+    if opinion is None:
+        return ["What stood on the stack is told where the second implementation is there."]
+    lines = opinion.check_lines(number, method, offset) if number in CHECK else opinion.run_lines(number, method, offset)
+    return [re.sub(r"\bclass (\d+)", lambda found: source.naming.class_word(int(found[1])), line) for line in lines]

@@ -1,0 +1,59 @@
+"""What the second implementation can add to an answer: the stack at that place and what was wanted. Without it the answer is explained
+from the bytes alone."""
+
+import pathlib
+import sys
+
+BUDGET = 100_000
+
+
+class SecondOpinion:
+    """The check and the run of the second implementation, for one module."""
+
+    def __init__(self, tables, code):
+        folder = str(pathlib.Path(__file__).resolve().parents[2] / "second")
+        sys.path.insert(0, folder)
+        try:
+            import check
+            import operators
+            import state
+            import step
+            import tables as loader
+        finally:
+            sys.path.remove(folder)
+        self.type_name = operators.type_name
+        self.value_text = state.value_text
+        self.module = loader.load(tables, code).module
+        self.explanation = check.explain(self.module)
+        self.run = lambda: step.run(self.module, [], BUDGET)
+
+    def check_lines(self, number, method, offset):
+        """What stood on the stack at a fault of the check and what was wanted there."""
+        said = self.explanation
+        if (said.number, said.method, said.offset) != (number, method, offset):
+            return [f"The line is not what the check says of this module: that is {said.number} {said.method} {said.offset}."]
+        lines = [] if said.shape is None else [f"Found: {said.found}."]
+        return lines + [f"Wanted: {said.wanted}."]
+
+    def run_lines(self, number, method, offset):
+        """What stood on the running frame's stack where a run ended; nothing where the run had arguments or another budget."""
+        ran = self.run()
+        if (ran.number, ran.method, ran.offset) != (number, method, offset) or not ran.state.frames:
+            return []
+        stack = [self.cell_words(*cell) for cell in ran.state.frames[-1].stack]
+        return ["On the stack, from its bottom: " + (", ".join(stack) or "nothing") + "."]
+
+    def cell_words(self, type, value):
+        """A value with its type; an object with its class and its number."""
+        name = self.type_name(type)
+        if name == "null":
+            return name
+        return f"{name} object {value}" if name.startswith("class ") else f"{name} {self.value_text((type, value))}"
+
+
+def second_opinion(tables, code):
+    """A SecondOpinion, or None where there is none or it can't read this module."""
+    try:
+        return SecondOpinion(tables, code)
+    except Exception:
+        return None
