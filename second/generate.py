@@ -50,6 +50,12 @@ def disturbed(dice):
     return lay_out(plan, dice)
 
 
+def moved_end(dice):
+    plan = grow_plan(dice)
+    tables, code = lay_out(plan, dice)
+    return faults.move_end(dice, plan), code
+
+
 def damaged_records(dice):
     plan = grow_plan(dice)
     tables, code = lay_out(plan, dice)
@@ -69,8 +75,14 @@ def broken_override(dice):
     return lay_out(plan, dice)
 
 
+def broken_rule(dice):
+    plan = grow_plan(dice)
+    faults.break_rule(dice, plan)
+    return lay_out(plan, dice)
+
+
 MIX = [
-    (31, passing),
+    (29, passing),
     (9, from_recipe(recipes.operators_plan)),
     (6, from_recipe(recipes.argument_plan)),
     (8, from_recipe(recipes.deep_end_plan)),
@@ -79,10 +91,12 @@ MIX = [
     (3, from_recipe(recipes.tall_plan)),
     (8, stirred),
     (11, disturbed),
+    (3, moved_end),
     (5, damaged_records),
     (4, damaged_bytes),
-    (2, broken_override),
-    (4, faults.limit),
+    (3, broken_override),
+    (3, broken_rule),
+    (5, faults.limit),
     (2, faults.garbage),
     (3, faults.raw_code),
 ]

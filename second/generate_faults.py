@@ -5,9 +5,9 @@ from assemble import Label, Line, records
 from generate_bodies import BodyWriter, constant_line
 from generate_modules import new_method, new_module
 from operators import F, INT32, INT64, RULES, VOID, class_type
-from reading_code import BRANCHES, TOKEN_KINDS, Instruction, Token, operand_fault
+from reading_code import BRANCHES, LENGTHS, PREFIX, TOKEN_KINDS, Instruction, Token, operand_fault
 from tables import (
-    BODY_BYTES, CLASS, CONSTRUCTOR, ENTRY, INSTANCE, MOST_STACK, OBJECT, STATIC, VIRTUAL, Field,
+    BODY_BYTES, CLASS, CONSTRUCTOR, ENTRY, INITIALISER, INSTANCE, MOST_STACK, OBJECT, STATIC, VIRTUAL, Field,
 )
 
 PLAIN_OPERATIONS = ["nop", "ldnull", "dup", "pop", "ret"] + sorted(set(RULES) - set(BRANCHES))
@@ -88,7 +88,8 @@ def disturb(dice, plan):
     row = plan.module.entry if dice.chance(50) else dice.between(1, plan.module.method_count)
     change = dice.weighted([
         (4, replace_line), (2, delete_line), (2, insert_line), (1, swap_lines), (2, retarget), (2, lower_stack),
-        (1, drop_ret), (3, change_type), (1, repeat_line), (1, change_sort),
+        (1, drop_ret), (3, change_type), (1, repeat_line), (1, change_sort), (2, drop_cast), (1, change_entry),
+        (2, wrong_member), (2, unknown_bytes),
     ])
     change(dice, plan, row)
 
@@ -126,6 +127,35 @@ def replace_line(dice, plan, row):
         plan.bodies[row][index] = any_line(dice, plan, row)
 
 
+def wrong_member(dice, plan, row):
+    """Let a token name a field or method that exists but that its instruction doesn't take."""
+    module, method, body = plan.module, plan.module.methods[row], plan.bodies[row]
+    places = [index for index in line_places(plan, row) if body[index].operation in TOKEN_KINDS]
+    if not places:
+        return
+    index = dice.choice(places)
+    operation = body[index].operation
+    if operation in ("call", "callvirt", "newobj"):
+        operation = dice.choice(("call", "callvirt", "callvirt", "newobj"))
+    count = max(module.class_count, module.field_count, module.method_count)
+    tokens = [Token(TOKEN_KINDS[operation], each) for each in range(1, count + 1)]
+    wrong = [token for token in tokens if operand_fault(module, method, Instruction(0, operation, token, 0))]
+    if wrong:
+        body[index] = Line(operation, dice.choice(wrong))
+
+
+NOT_KEPT = [first for first in range(256) if LENGTHS[first] == 0]
+
+
+def unknown_bytes(dice, plan, row):
+    """Put in a byte that starts no instruction kept, or FE before a byte that it may not stand before."""
+    if dice.chance(50):
+        unknown = bytes([PREFIX, dice.choice((0x00, 0x06, 0x06, 0x07, 0xFE, 0xFF))])
+    else:
+        unknown = bytes([dice.choice(NOT_KEPT)])
+    plan.bodies[row].insert(pick_line(dice, plan, row), Line("raw", unknown))
+
+
 def delete_line(dice, plan, row):
     del plan.bodies[row][pick_line(dice, plan, row)]
     if not line_places(plan, row):
@@ -134,6 +164,15 @@ def delete_line(dice, plan, row):
 
 def insert_line(dice, plan, row):
     plan.bodies[row].insert(pick_line(dice, plan, row), any_line(dice, plan, row))
+
+
+def drop_cast(dice, plan, row):
+    """Leave out a castclass, without which two shapes may no longer agree."""
+    casts = [(method, index) for method in plan.bodies for index in line_places(plan, method)
+             if plan.bodies[method][index].operation == "castclass"]
+    if casts:
+        method, index = dice.choice(casts)
+        del plan.bodies[method][index]
 
 
 def repeat_line(dice, plan, row):
@@ -192,6 +231,19 @@ def change_sort(dice, plan, row):
     plan.module.methods[row].sort = dice.between(0, 4)
 
 
+def change_entry(dice, plan, row):
+    plan.module.entry = dice.between(1, plan.module.method_count)
+
+
+def move_end(dice, plan):
+    """Let a method's part end some bytes earlier or later than its code does; answers the tables anew."""
+    module = plan.module
+    method = module.methods[module.entry if dice.chance(50) else dice.between(1, module.method_count)]
+    length = method.code_length + dice.choice((-1, -2, -3, -4, -5, -6, -8, 1, 2, 5))
+    method.code_length = max(1, min(length, len(module.code) - method.code_offset))
+    return b"".join(records(module))
+
+
 # Damaged tables and code.
 
 EDGE_BYTES = (0, 1, 2, 3, 4, 5, 6, 7, 31, 32, 33, 34, 35, 64, 65, 127, 128, 129, 200, 255)
@@ -247,17 +299,96 @@ def damage_bytes(dice, data):
 
 
 def break_override(dice, plan):
-    """Another return type or other parameters for a method that overrides."""
+    """Break a rule about overriding: mostly 7, else 6."""
     overriding = [method for method in plan.module.methods[1:] if method.overridden]
-    if not overriding:
-        return
-    method = dice.choice(overriding)
+    if overriding and dice.chance(70):
+        change_signature(dice, dice.choice(overriding))
+    elif plan.module.method_count:
+        add_override(dice, plan)
+
+
+def add_override(dice, plan):
+    """One more method, which overrides a row that it mostly may not: any, or one its class overrides already."""
+    module = plan.module
+    like = dice.choice(module.methods[1:])
+    owner = like.owner if dice.chance(60) else dice.between(1, module.class_count)
+    method = new_method(owner, like.sort if dice.chance(80) else VIRTUAL, like.returns, like.parameters)
+    any_row = dice.between(0, module.method_count + 2)
+    method.overridden = like.overridden if like.overridden and dice.chance(60) else any_row
+    module.methods.append(method)
+    plan.bodies[module.method_count] = [Line("br", 0)]
+
+
+def change_signature(dice, method):
+    """Another return type or other parameters."""
     if dice.chance(40):
         method.returns = dice.choice((VOID, INT32, INT64, F, class_type(OBJECT)))
     elif method.parameters and dice.chance(50):
         method.parameters.pop()
     else:
         method.parameters.append(dice.choice((INT32, INT64, F)))
+
+
+def break_rule(dice, plan):
+    """Break one rule between records, or the order or range of one value, in a module that is else right."""
+    dice.choice((
+        initialiser_rule, initialiser_rule, constructor_rule, entry_rule, field_order, parent_range, overridden_range,
+    ))(dice, plan)
+
+
+def initialiser_rule(dice, plan):
+    """An initialiser of Object, a second one of a class, or one with a return type or a parameter."""
+    module = plan.module
+    kind = dice.below(4)
+    method = new_method(OBJECT if kind == 0 else dice.between(1, module.class_count), INITIALISER)
+    if kind == 1:
+        method.returns = dice.choice((INT32, INT64, F, class_type(OBJECT)))
+    elif kind == 2:
+        method.parameters.append(dice.choice((VOID, INT32, F)))
+    module.methods.append(method)
+    plan.bodies[module.method_count] = [Line("ret")]
+
+
+def constructor_rule(dice, plan):
+    constructors = [method for method in plan.module.methods[1:] if method.sort == CONSTRUCTOR]
+    if constructors:
+        dice.choice(constructors).returns = dice.choice((INT32, INT64, F, class_type(OBJECT)))
+
+
+def entry_rule(dice, plan):
+    """An entry of another sort, with a parameter of F or a class, or returning a class."""
+    module = plan.module
+    if dice.chance(40):
+        module.entry = dice.between(0, module.method_count + 1)
+    elif dice.chance(50):
+        module.methods[module.entry].parameters.append(dice.choice((F, class_type(OBJECT))))
+    else:
+        module.methods[module.entry].returns = class_type(dice.between(1, module.class_count))
+
+
+def field_order(dice, plan):
+    """Two fields in each other's place, or one with an owner that is no class."""
+    fields = plan.module.fields
+    if len(fields) > 2 and dice.chance(80):
+        one, other = dice.between(1, len(fields) - 1), dice.between(1, len(fields) - 1)
+        fields[one], fields[other] = fields[other], fields[one]
+    elif len(fields) > 1:
+        row = dice.between(1, len(fields) - 1)
+        fields[row] = fields[row]._replace(owner=dice.choice((0, plan.module.class_count + 1, 255)))
+
+
+def parent_range(dice, plan):
+    parents = plan.module.parents
+    row = dice.between(1, len(parents) - 1)
+    parents[row] = dice.choice((0, 1, row, row + 1, 255))
+
+
+def overridden_range(dice, plan):
+    """An overridden row of any kind for any method."""
+    module = plan.module
+    row = dice.between(1, module.method_count)
+    any_row = dice.between(1, module.method_count)
+    module.methods[row].overridden = dice.choice((any_row, row, module.method_count + 1, 255))
 
 
 # Counts at their limits and past them.
@@ -321,9 +452,11 @@ def code_part(dice):
     module = new_module([0], [], [new_method(OBJECT, STATIC)])
     size = dice.choice((0, 1, 2, 1023, 1024, 1025, 2000, 32767, 32768))
     method = module.methods[1]
-    method.code_length = dice.choice((0, 1, 2, 1023, 1024, 1025, 65535))
+    method.code_length = dice.choice((0, 1, 2, 1023, 1024, 1024, 1025, 1025, 65535))
+    if dice.chance(60):
+        size = max(size, min(method.code_length, 2000))
     edge = max(0, size - method.code_length)
-    method.code_offset = dice.choice((0, edge, edge, edge + 1, size, 0x80000000, 0xFFFFFFFF, 0xFFFFFC00))
+    method.code_offset = dice.choice((0, 0, edge, edge, edge, edge + 1, size, 0x80000000, 0xFFFFFFFF, 0xFFFFFC00))
     code = bytes(max(0, size - 1)) + b"\x2A" * min(size, 1)
     return b"".join(records(module)), code
 
@@ -351,7 +484,7 @@ def full_tables(dice):
 
 LIMITS = (
     many_classes, many_fields, many_instance_fields, many_methods, many_arguments, many_locals, large_stack,
-    code_part, code_part, long_code, full_tables,
+    code_part, code_part, code_part, long_code, full_tables,
 )
 
 

@@ -36,19 +36,38 @@ def pick_operand(dice, operation, number, type):
     return constant_line(dice, type)
 
 
+def edge_pair(dice, type):
+    """Two constants whose sum, difference, product or quotient lies at the edge of the type's range."""
+    smallest = -2**31 if type == INT32 else -2**63
+    largest, half = -1 - smallest, smallest // 2
+    root = 46340 if type == INT32 else 3037000499
+    pair = dice.choice((
+        (smallest, 1), (smallest, -1), (smallest, 0), (largest, 1), (largest, -1), (smallest, smallest),
+        (smallest, largest), (half, 2), (half, -2), (half, half), (-half, -half), (root, root), (root + 1, root + 1),
+        (-root - 1, root + 1), (0, smallest), (-1, smallest), (-1, largest), (-1, -1), (-7, 5), (7, -5), (-7, -5),
+    ))
+    return [Line(CONSTANT_OPERATIONS[type], value) for value in (pair if dice.chance(70) else reversed(pair))]
+
+
+def operands(dice, operation, types):
+    """Lines that leave values of these types: a value twice, a pair at an edge, or any constants."""
+    alike = len(types) == 2 and types[0] == types[1]
+    if alike and dice.chance(10):
+        return [pick_operand(dice, operation, 1, types[0]), Line("dup")]
+    if alike and types[0] in WHOLE and dice.chance(40):
+        return edge_pair(dice, types[0])
+    return [pick_operand(dice, operation, number, type) for number, type in enumerate(types)]
+
+
 def operators_plan(dice):
     """Operators on constants, each result kept in a static field of its own, so that the state shows them all."""
-    fields, body, results = [], [], dice.between(1, 12)
-    for row in range(1, results + 1):
+    fields, body = [], []
+    for row in range(1, dice.between(1, 12) + 1):
         operation = dice.choice(sorted(RULES))
         types = operand_types(dice, operation)
         if dice.chance(2):
             types = [dice.choice(NUMERIC) for _ in types]
-        if len(types) == 2 and types[0] == types[1] and dice.chance(10):
-            body += [pick_operand(dice, operation, 1, types[0]), Line("dup")]
-        else:
-            body += [pick_operand(dice, operation, number, type) for number, type in enumerate(types)]
-        body += apply_operator(operation)
+        body += operands(dice, operation, types) + apply_operator(operation)
         brought = RULES[operation].brings(types) or [INT32]
         fields.append(Field(OBJECT, True, brought[0]))
         body.append(Line("stsfld", field_token(row)))
