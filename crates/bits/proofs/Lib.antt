@@ -1,0 +1,9 @@
+pub mod Tests
+pub mod Residue
+pub mod Halves
+pub mod Reading
+pub mod Wrapping
+pub mod Shifts
+pub mod Divide
+pub mod Fitting
+pub mod Results

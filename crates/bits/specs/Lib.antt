@@ -1,0 +1,3 @@
+-- What the contracts of the integer operators speak of.
+pub mod Cells
+pub mod Parts

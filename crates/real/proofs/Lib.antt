@@ -1,0 +1,3 @@
+pub mod Nan
+pub mod Exact
+pub mod Swapped

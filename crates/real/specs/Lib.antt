@@ -1,0 +1,1 @@
+-- The contracts of the F operators cite the model's definitions alone.
