@@ -1,0 +1,24 @@
+-- What is proved about the cells.
+pub mod Lists
+pub mod Seen
+pub mod Rows
+pub mod Slots
+pub mod Frames
+pub mod Heap
+pub mod Sim
+pub mod Ranges
+pub mod Values
+pub mod Calls
+pub mod Dispatch
+pub mod Making
+pub mod Returns
+pub mod Fields
+pub mod Runs
+pub mod Tidy
+pub mod Ends
+pub mod Begins
+pub mod Admits
+pub mod Constants
+pub mod Bounds
+pub mod Tabled
+pub mod Loads

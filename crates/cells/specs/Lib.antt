@@ -1,0 +1,4 @@
+pub mod View
+pub mod Order
+pub mod Cells
+pub mod Layout

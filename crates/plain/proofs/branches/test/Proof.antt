@@ -1,0 +1,83 @@
+use borrow.Author.Needs.{needs}
+use mathlib.Core.Path.{sym, _∙_}
+use borrow.Author.Tests.{eq-eqb, ne-eqb}
+use Rattle.model.specs.Answer.{pick}
+use Rattle.cells.specs.Cells.{goto}
+use Rattle.plain.proofs.Operated.{test-none, test-real, test-goes}
+use Rattle.plain.proofs.branches.test.Statement.{statement}
+use Rattle.plain.proofs.branches.test.Tie as tie
+
+ends-requires : tie.Need-ends-requires
+ends-requires c κs = search needs
+
+returns : tie.Need-returns
+returns c = rw (c .ends .ensures) (search needs, λ s. test-none _ _ _ (c .before .if1 .taken))
+
+mul-i : tie.Need-mul-i
+mul-i c = search needs
+
+add-i : tie.Need-add-i
+add-i c = search needs
+
+element-copy-out-if2 : tie.Need-element-copy-out-if2
+element-copy-out-if2 c = search needs
+
+ends-requires-2 : tie.Need-ends-requires-2
+ends-requires-2 c κs = search needs
+
+returns-2 : tie.Need-returns-2
+returns-2 c =
+    let p4 = c .before .before .before .before in
+    rw (c .ends2 .ensures) (search needs, λ s. test-real _ _ _ (p4 .if1 .left) (c .before .if2 .taken))
+
+element-copy-out-shown : tie.Need-element-copy-out-shown
+element-copy-out-shown c = search needs
+
+mul-shown : tie.Need-mul-shown
+mul-shown c = search needs
+
+element-copy-out-shown-2 : tie.Need-element-copy-out-shown-2
+element-copy-out-shown-2 c = search needs
+
+shown-requires : tie.Need-shown-requires
+shown-requires c κs = search needs
+
+moved-requires : tie.Need-moved-requires
+moved-requires c κs = search needs
+
+returns-3 : tie.Need-returns-3
+unfolding goto pick
+returns-3 c =
+    let p5 = c .before .before .before .before .before in
+    let p8 = p5 .before .before .before in
+    rw (c .moved .ensures) (search needs, λ s. test-goes _ _ _ (p8 .if1 .left) (p5 .if2 .left) (eq-eqb _ _ (sym (c .before .before .shown .ensures) ∙ c .before .if3 .taken)))
+
+moved-requires-2 : tie.Need-moved-requires-2
+moved-requires-2 c κs = search needs
+
+returns-4 : tie.Need-returns-4
+unfolding goto pick
+returns-4 c =
+    let p5 = c .before .before .before .before .before in
+    let p8 = p5 .before .before .before in
+    rw (c .moved2 .ensures) (search needs, λ s. test-goes _ _ _ (p8 .if1 .left) (p5 .if2 .left) (ne-eqb _ _ (λ z. c .before .if3 .left (c .before .before .shown .ensures ∙ z))))
+
+pub test-spec : {M : Type 1} → statement M
+test-spec =
+    tie.close
+    (tie.spec
+    ends-requires
+    returns
+    mul-i
+    add-i
+    element-copy-out-if2
+    ends-requires-2
+    returns-2
+    element-copy-out-shown
+    mul-shown
+    element-copy-out-shown-2
+    shown-requires
+    moved-requires
+    returns-3
+    moved-requires-2
+    returns-4)

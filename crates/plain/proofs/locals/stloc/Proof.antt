@@ -1,0 +1,99 @@
+use borrow.Author.Needs.{needs}
+use mathlib.Core.Path.{refl, _∙_}
+use native.Mathlib.Omega.{arith}
+use Rattle.cells.specs.Cells.{withLocs, goto}
+use Rattle.plain.proofs.Answers.{below, past, stloc-none, stloc-pops, refused, passed}
+use Rattle.plain.proofs.locals.stloc.Statement.{statement}
+use Rattle.plain.proofs.locals.stloc.Tie as tie
+
+element-copy-out-wide : tie.Need-element-copy-out-wide
+element-copy-out-wide c = search needs
+
+wide-requires : tie.Need-wide-requires
+wide-requires c κs = search needs
+
+ends-requires : tie.Need-ends-requires
+ends-requires c κs = search needs
+
+returns : tie.Need-returns
+returns c =
+    rw (c .ends .ensures) (search needs, λ L s t a f h p. stloc-none L _ _ _ (past _ a (c .before .before .wide .ensures .0) (c .before .if1 .taken)))
+
+mul-i : tie.Need-mul-i
+mul-i c = search needs
+
+add-i : tie.Need-add-i
+add-i c = search needs
+
+add-i-2 : tie.Need-add-i-2
+add-i-2 c = search needs
+
+element-copy-out-popped : tie.Need-element-copy-out-popped
+element-copy-out-popped c =
+    omega (arith, c .before .before .before .pre .1 .most (c .before .before .before .args .g .method))
+
+popped-requires : tie.Need-popped-requires
+popped-requires c κs = search needs
+
+ends-requires-2 : tie.Need-ends-requires-2
+ends-requires-2 c κs = search needs
+
+returns-2 : tie.Need-returns-2
+returns-2 c =
+    let p5 = c .before .before .before .before .before in
+    let p6 = p5 .before in
+    let p8 = p6 .before .before in
+    rw (c .ends2 .ensures) (search needs, λ L s t a f h p. refused _ (stloc-pops L _ _ _ (below _ a (p6 .wide .ensures .0) (p5 .if1 .left)) t ∙ c .before .before .before .popped .ensures .1 L (withLocs s (p8 .args .locs .now)) _ f h p) (c .before .if2 .taken))
+
+sub-d : tie.Need-sub-d
+sub-d c = omega (arith, c .before .before .before .popped .ensures .0 (c .before .if2 .left))
+
+mul-to : tie.Need-mul-to
+mul-to c = search needs
+
+add-to : tie.Need-add-to
+add-to c = search needs
+
+mul-locs : tie.Need-mul-locs
+mul-locs c = search needs
+
+element-write-locs : tie.Need-element-write-locs
+element-write-locs c =
+    let p9 = c .before .before .before .before .before .before .before .before .before in
+    omega (arith, p9 .pre .1 .most (p9 .args .g .method))
+
+moved-requires : tie.Need-moved-requires
+moved-requires c κs = search needs
+
+returns-3 : tie.Need-returns-3
+unfolding goto
+returns-3 c =
+    let p5 = c .before .before .before .before .before in
+    let p7 = p5 .before .before in
+    let p8 = p7 .before in
+    let p10 = p8 .before .before in
+    rw (c .moved .ensures)
+    (omega (arith, p10 .pre .0), λ L s t a f h p. passed _ (stloc-pops L _ _ _ (below _ a (p8 .wide .ensures .0) (p7 .if1 .left)) t ∙ p5 .popped .ensures .1 L (withLocs s (p10 .args .locs .now)) _ f h p) (c .before .before .before .if2 .left) refl)
+
+pub stloc-spec : {M : Type 1} → statement M
+stloc-spec =
+    tie.close
+    (tie.spec
+    element-copy-out-wide
+    wide-requires
+    ends-requires
+    returns
+    mul-i
+    add-i
+    add-i-2
+    element-copy-out-popped
+    popped-requires
+    ends-requires-2
+    returns-2
+    sub-d
+    mul-to
+    add-to
+    mul-locs
+    element-write-locs
+    moved-requires
+    returns-3)

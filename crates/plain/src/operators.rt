@@ -1,0 +1,254 @@
+// Operators on one or two cells of the stack.
+use crate::Gone;
+use crate::comparisons::Holds;
+use crate::comparisons::related;
+use crate::stack::ends;
+use crate::stack::moved;
+use bits::Out;
+use cells::Regs;
+ghost use mathlib.Core.Path.{_≡_};
+ghost use Prim.Native.Nat.{_≤_, _<_};
+ghost use mir.Syntax.{w32};
+ghost use Rattle.model.specs.Code.{number, whole, shift, compare};
+ghost use Rattle.model.specs.Operators.{real, integer, wholeOf, shifted};
+ghost use Rattle.bits.specs.Cells.{widthOf, low, answer};
+ghost use Rattle.cells.specs.declared.Cells.{Cells};
+ghost use Rattle.cells.specs.Cells.{binaryC, unaryC};
+ghost use Rattle.plain.specs.Steps.{Ok, Few, Meets, onStack};
+ghost use Rattle.plain.specs.Gives.{numberBy, wholeBy, shiftBy, relationBy, binaryBy, unaryBy, given, ofKind, binaryGives, unaryGives};
+
+// What an operator gives: a kind and bits, or the number that the run ends with.
+pub enum Given {
+    Cell(u8, u64),
+    Ends(u8),
+}
+
+// The bits of an operator as a cell of a kind.
+fn tagged(k: u8, o: Out) -> Given
+    ensures { λ r. ⌜ given r ≡ ofKind k (answer o) ⌝ }
+{
+    match o {
+        Out::Bits(n) => Given::Cell(k, n),
+        Out::Ends(e) => Given::Ends(e),
+    }
+}
+
+// ---- add, sub, mul, div
+
+fn number_bits(op: u8, wide: bool, a: u64, b: u64) -> Out
+    ensures { λ r. ⌜ answer r ≡ integer (widthOf wide) (numberBy op) (low (widthOf wide) a) (low (widthOf wide) b) ⌝ }
+{
+    match op {
+        0 => Out::Bits(bits::add(wide, a, b)),
+        1 => Out::Bits(bits::sub(wide, a, b)),
+        2 => Out::Bits(bits::mul(wide, a, b)),
+        _ => bits::div(wide, a, b),
+    }
+}
+
+fn number_real(op: u8, a: u64, b: u64) -> u64
+    ensures { λ r. ⌜ r ≡ real (numberBy op) a b ⌝ }
+{
+    match op {
+        0 => real::fadd(a, b),
+        1 => real::fsub(a, b),
+        2 => real::fmul(a, b),
+        _ => real::fdiv(a, b),
+    }
+}
+
+fn number(op: u8, k: u8, l: u8, a: u64, b: u64) -> Given
+    ensures { λ r. ⌜ (k ≤ 3 → l ≤ 3 → given r ≡ binaryGives (number (numberBy op)) k l a b) ⌝ }
+{
+    if k != l {
+        return Given::Ends(45);
+    }
+    if k < 2 {
+        if k == 0 {
+            return Given::Ends(45);
+        }
+        return tagged(1, number_bits(op, false, a, b));
+    }
+    if k == 2 {
+        return tagged(2, number_bits(op, true, a, b));
+    }
+    Given::Cell(3, number_real(op, a, b))
+}
+
+// ---- rem, div.un, rem.un, and, or, xor, add.ovf, mul.ovf, sub.ovf
+
+fn whole_bits(op: u8, wide: bool, a: u64, b: u64) -> Out
+    ensures { λ r. ⌜ answer r ≡ wholeOf (widthOf wide) (wholeBy op) (low (widthOf wide) a) (low (widthOf wide) b) ⌝ }
+{
+    match op {
+        0 => bits::rem(wide, a, b),
+        1 => bits::div_un(wide, a, b),
+        2 => bits::rem_un(wide, a, b),
+        3 => Out::Bits(bits::bit_and(wide, a, b)),
+        4 => Out::Bits(bits::bit_or(wide, a, b)),
+        5 => Out::Bits(bits::bit_xor(wide, a, b)),
+        6 => bits::add_ovf(wide, a, b),
+        7 => bits::mul_ovf(wide, a, b),
+        _ => bits::sub_ovf(wide, a, b),
+    }
+}
+
+fn whole(op: u8, k: u8, l: u8, a: u64, b: u64) -> Given
+    ensures { λ r. ⌜ (k ≤ 3 → l ≤ 3 → given r ≡ binaryGives (whole (wholeBy op)) k l a b) ⌝ }
+{
+    if k != l {
+        return Given::Ends(45);
+    }
+    if k == 0 {
+        return Given::Ends(45);
+    }
+    if k == 3 {
+        return Given::Ends(45);
+    }
+    tagged(k, whole_bits(op, k == 2, a, b))
+}
+
+// ---- shl, shr, shr.un: by an int32
+
+fn shift_bits(op: u8, wide: bool, a: u64, n: u64) -> u64
+    ensures { λ r. ⌜ r ≡ shifted (widthOf wide) (shiftBy op) (low (widthOf wide) a) (low w32 n) ⌝ }
+{
+    match op {
+        0 => bits::shl(wide, a, n),
+        1 => bits::shr(wide, a, n),
+        _ => bits::shr_un(wide, a, n),
+    }
+}
+
+fn shift(op: u8, k: u8, l: u8, a: u64, n: u64) -> Given
+    ensures { λ r. ⌜ (k ≤ 3 → l ≤ 3 → given r ≡ binaryGives (shift (shiftBy op)) k l a n) ⌝ }
+{
+    if l != 1 {
+        return Given::Ends(45);
+    }
+    if k == 0 {
+        return Given::Ends(45);
+    }
+    if k == 3 {
+        return Given::Ends(45);
+    }
+    Given::Cell(k, shift_bits(op, k == 2, a, n))
+}
+
+// ---- ceq, cgt, clt and the like: 1 or 0
+
+fn compare(relation: u8, k: u8, l: u8, a: u64, b: u64) -> Given
+    ensures { λ r. ⌜ (k ≤ 3 → l ≤ 3 → given r ≡ binaryGives (compare (relationBy relation)) k l a b) ⌝ }
+{
+    let said = related(relation, k, l, a, b);
+    match said {
+        Holds::Says(b) => {
+            if b {
+                return Given::Cell(1, 1);
+            }
+            Given::Cell(1, 0)
+        }
+        Holds::Wrong => Given::Ends(45),
+    }
+}
+
+// ---- Two operands
+
+fn operated(op: u8, k: u8, l: u8, a: u64, b: u64) -> Given
+    ensures { λ r. ⌜ (k ≤ 3 → l ≤ 3 → given r ≡ binaryGives (binaryBy op) k l a b) ⌝ }
+{
+    if op < 4 {
+        return number(op, k, l, a, b);
+    }
+    if op < 13 {
+        return whole(op - 4, k, l, a, b);
+    }
+    if op < 16 {
+        return shift(op - 13, k, l, a, b);
+    }
+    compare(op - 16, k, l, a, b)
+}
+
+pub fn binary(g: Regs, kinds: &mut [u8; 1024], bits: &mut [u64; 1024], op: u8, next: usize) -> Gone
+    requires { ⌜ Ok g ⌝ }
+    ensures { λ r. ⌜ Ok (r .regs) ⌝ ∗ ⌜ ((c : Cells) → Few 3 (now (kinds .entry)) → Meets (r .ending) (onStack c (r .regs) (now (kinds .exit)) (now (bits .exit))) (onStack c g (now (kinds .entry)) (now (bits .entry))) (binaryC (onStack c g (now (kinds .entry)) (now (bits .entry))) (binaryBy op) next)) ⌝ }
+{
+    let d = g.depth;
+    if d < 2 {
+        return ends(g, 43);
+    }
+    let i = g.top * 32 + (d - 2);
+    let j = i + 1;
+    let o = operated(op, kinds[i], kinds[j], bits[i], bits[j]);
+    match o {
+        Given::Cell(k, n) => {
+            kinds[i] = k;
+            bits[i] = n;
+            moved(g, next, d - 2 + 1)
+        }
+        Given::Ends(e) => ends(g, e),
+    }
+}
+
+// ---- One operand: 0 neg, 1 not, 2 conv.i4, 3 conv.i8, 4 conv.r8
+
+fn converted_bits(op: u8, k: u8, a: u64) -> Given
+    requires { ⌜ (0 < k) × (k < 3) ⌝ }
+    ensures { λ r. ⌜ given r ≡ unaryGives (unaryBy op) k a ⌝ }
+{
+    match op {
+        0 => Given::Cell(k, bits::neg(k == 2, a)),
+        1 => Given::Cell(k, bits::complement(k == 2, a)),
+        2 => Given::Cell(1, bits::conv_i4(a)),
+        3 => {
+            if k == 2 {
+                return Given::Cell(2, a);
+            }
+            Given::Cell(2, bits::conv_i8(a))
+        }
+        _ => {
+            if k == 2 {
+                return Given::Ends(45);
+            }
+            Given::Cell(3, real::conv_r8(a))
+        }
+    }
+}
+
+fn converted(op: u8, k: u8, a: u64) -> Given
+    ensures { λ r. ⌜ (k ≤ 3 → given r ≡ unaryGives (unaryBy op) k a) ⌝ }
+{
+    if k == 0 {
+        return Given::Ends(45);
+    }
+    if k < 3 {
+        return converted_bits(op, k, a);
+    }
+    if op == 0 {
+        return Given::Cell(3, real::fneg(a));
+    }
+    if 3 < op {
+        return Given::Cell(3, a);
+    }
+    Given::Ends(45)
+}
+
+pub fn unary(g: Regs, kinds: &mut [u8; 1024], bits: &mut [u64; 1024], op: u8, next: usize) -> Gone
+    requires { ⌜ Ok g ⌝ }
+    ensures { λ r. ⌜ Ok (r .regs) ⌝ ∗ ⌜ ((c : Cells) → Few 3 (now (kinds .entry)) → Meets (r .ending) (onStack c (r .regs) (now (kinds .exit)) (now (bits .exit))) (onStack c g (now (kinds .entry)) (now (bits .entry))) (unaryC (onStack c g (now (kinds .entry)) (now (bits .entry))) (unaryBy op) next)) ⌝ }
+{
+    let d = g.depth;
+    if d < 1 {
+        return ends(g, 43);
+    }
+    let i = g.top * 32 + (d - 1);
+    let o = converted(op, kinds[i], bits[i]);
+    match o {
+        Given::Cell(k, n) => {
+            kinds[i] = k;
+            bits[i] = n;
+            moved(g, next, d - 1 + 1)
+        }
+        Given::Ends(e) => ends(g, e),
+    }
+}
