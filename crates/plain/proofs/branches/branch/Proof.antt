@@ -36,8 +36,7 @@ when-requires c κs = search needs
 
 returns-2 : tie.Need-returns-2
 returns-2 c =
-    let p4 = c .before .before .before .before in
-    (c .onward .ensures .0, λ L s e f. instead (branch-always L _ _ _ _ (below _ e refl (c .before .before .if1 .left)) (c .before .match .keys1)) (c .onward .ensures .1 (withStack s (p4 .args .kinds .now) (p4 .args .bits .now))))
+    (c .onward .ensures .0, λ L s e f. instead (branch-always L _ _ _ _ (below _ e refl (c .before .before .if1 .left)) (c .before .match .keys1)) (c .onward .ensures .1 (withStack s (c .before .before .before .before .args .kinds .now) (c .before .before .before .before .args .bits .now))))
 
 returns-3 : tie.Need-returns-3
 returns-3 c =

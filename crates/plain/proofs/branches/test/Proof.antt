@@ -27,8 +27,7 @@ ends-requires-2 c κs = search needs
 
 returns-2 : tie.Need-returns-2
 returns-2 c =
-    let p4 = c .before .before .before .before in
-    rw (c .ends2 .ensures) (search needs, λ s. test-real _ _ _ (p4 .if1 .left) (c .before .if2 .taken))
+    rw (c .ends2 .ensures) (search needs, λ s. test-real _ _ _ (c .before .before .before .before .if1 .left) (c .before .if2 .taken))
 
 element-copy-out-shown : tie.Need-element-copy-out-shown
 element-copy-out-shown c = search needs
@@ -48,9 +47,7 @@ moved-requires c κs = search needs
 returns-3 : tie.Need-returns-3
 unfolding goto pick
 returns-3 c =
-    let p5 = c .before .before .before .before .before in
-    let p8 = p5 .before .before .before in
-    rw (c .moved .ensures) (search needs, λ s. test-goes _ _ _ (p8 .if1 .left) (p5 .if2 .left) (eq-eqb _ _ (sym (c .before .before .shown .ensures) ∙ c .before .if3 .taken)))
+    rw (c .moved .ensures) (search needs, λ s. test-goes _ _ _ (c .before .before .before .before .before .before .before .before .if1 .left) (c .before .before .before .before .before .if2 .left) (eq-eqb _ _ (sym (c .before .before .shown .ensures) ∙ c .before .if3 .taken)))
 
 moved-requires-2 : tie.Need-moved-requires-2
 moved-requires-2 c κs = search needs
@@ -58,9 +55,7 @@ moved-requires-2 c κs = search needs
 returns-4 : tie.Need-returns-4
 unfolding goto pick
 returns-4 c =
-    let p5 = c .before .before .before .before .before in
-    let p8 = p5 .before .before .before in
-    rw (c .moved2 .ensures) (search needs, λ s. test-goes _ _ _ (p8 .if1 .left) (p5 .if2 .left) (ne-eqb _ _ (λ z. c .before .if3 .left (c .before .before .shown .ensures ∙ z))))
+    rw (c .moved2 .ensures) (search needs, λ s. test-goes _ _ _ (c .before .before .before .before .before .before .before .before .if1 .left) (c .before .before .before .before .before .if2 .left) (ne-eqb _ _ (λ z. c .before .if3 .left (c .before .before .shown .ensures ∙ z))))
 
 pub test-spec : {M : Type 1} → statement M
 test-spec =

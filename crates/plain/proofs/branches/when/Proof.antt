@@ -53,9 +53,7 @@ moved-requires c κs = search needs
 returns-2 : tie.Need-returns-2
 unfolding goto pick
 returns-2 c =
-    let p5 = c .before .before .before .before .before in
-    let p11 = p5 .before .before .before .before .before .before in
-    rw (c .moved .ensures) (search needs, λ s f. when-goes _ _ _ _ (p11 .if1 .left) {t = true} (sym (ap says (c .before .before .before .said .given .1) ∙ rw (c .before .if2 .taken)) ∙ p5 .related .ensures (f .most _) (f .most _)))
+    rw (c .moved .ensures) (search needs, λ s f. when-goes _ _ _ _ (c .before .before .before .before .before .before .before .before .before .before .before .if1 .left) {t = true} (sym (ap says (c .before .before .before .said .given .1) ∙ rw (c .before .if2 .taken)) ∙ c .before .before .before .before .before .related .ensures (f .most _) (f .most _)))
 
 moved-requires-2 : tie.Need-moved-requires-2
 moved-requires-2 c κs = search needs
@@ -69,14 +67,11 @@ ends-requires-2 c κs = search needs
 returns-3 : tie.Need-returns-3
 unfolding goto pick
 returns-3 c =
-    let p5 = c .before .before .before .before .before in
-    let p11 = p5 .before .before .before .before .before .before in
-    rw (c .moved2 .ensures) (search needs, λ s f. when-goes _ _ _ _ (p11 .if1 .left) {t = false} (sym (ap says (c .before .before .before .said .given .1) ∙ rw (c .before .if2 .left)) ∙ p5 .related .ensures (f .most _) (f .most _)))
+    rw (c .moved2 .ensures) (search needs, λ s f. when-goes _ _ _ _ (c .before .before .before .before .before .before .before .before .before .before .before .if1 .left) {t = false} (sym (ap says (c .before .before .before .said .given .1) ∙ rw (c .before .if2 .left)) ∙ c .before .before .before .before .before .related .ensures (f .most _) (f .most _)))
 
 returns-4 : tie.Need-returns-4
 returns-4 c =
-    let p9 = c .before .before .before .before .before .before .before .before .before in
-    rw (c .ends2 .ensures) (search needs, λ s f. when-wrong _ _ _ _ (p9 .if1 .left) (sym (ap says (c .before .enum-told .given .1)) ∙ c .before .before .before .related .ensures (f .most _) (f .most _)))
+    rw (c .ends2 .ensures) (search needs, λ s f. when-wrong _ _ _ _ (c .before .before .before .before .before .before .before .before .before .if1 .left) (sym (ap says (c .before .enum-told .given .1)) ∙ c .before .before .before .related .ensures (f .most _) (f .most _)))
 
 pub when-spec : {M : Type 1} → statement M
 when-spec =

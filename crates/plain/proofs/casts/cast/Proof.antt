@@ -37,10 +37,7 @@ ends-requires-3 c κs = search needs
 
 returns-3 : tie.Need-returns-3
 returns-3 c =
-    let p4 = c .before .before .before .before in
-    let p5 = p4 .before in
-    let p6 = p5 .before in
-    rw (c .ends3 .ensures) (search needs, λ L s n h p. cast-kind L _ _ _ _ (rw n (sym (p6 .is-token .ensures) ∙ not-false _ (p5 .if1 .left))) (p4 .if2 .left) (c .before .if3 .taken))
+    rw (c .ends3 .ensures) (search needs, λ L s n h p. cast-kind L _ _ _ _ (rw n (sym (c .before .before .before .before .before .before .is-token .ensures) ∙ not-false _ (c .before .before .before .before .before .if1 .left))) (c .before .before .before .before .if2 .left) (c .before .if3 .taken))
 
 mul-refers : tie.Need-mul-refers
 mul-refers c = search needs
@@ -57,11 +54,7 @@ moved-requires c κs = search needs
 returns-4 : tie.Need-returns-4
 unfolding goto
 returns-4 c =
-    let p4 = c .before .before .before .before in
-    let p7 = p4 .before .before .before in
-    let p8 = p7 .before in
-    let p9 = p8 .before in
-    rw (c .moved .ensures) (search needs, λ L s n h p. cast-hit L _ _ _ _ (rw n (sym (p9 .is-token .ensures) ∙ not-false _ (p8 .if1 .left))) (p7 .if2 .left) (p4 .if3 .left) (c .before .before .refers .ensures (L .parents) h p) (c .before .if4 .taken))
+    rw (c .moved .ensures) (search needs, λ L s n h p. cast-hit L _ _ _ _ (rw n (sym (c .before .before .before .before .before .before .before .before .before .is-token .ensures) ∙ not-false _ (c .before .before .before .before .before .before .before .before .if1 .left))) (c .before .before .before .before .before .before .before .if2 .left) (c .before .before .before .before .if3 .left) (c .before .before .refers .ensures (L .parents) h p) (c .before .if4 .taken))
 
 mul-bits : tie.Need-mul-bits
 mul-bits c = search needs
@@ -75,22 +68,14 @@ moved-requires-2 c κs = search needs
 returns-5 : tie.Need-returns-5
 unfolding goto
 returns-5 c =
-    let p5 = c .before .before .before .before .before in
-    let p8 = p5 .before .before .before in
-    let p9 = p8 .before in
-    let p10 = p9 .before in
-    rw (c .moved2 .ensures, c .before .if5 .taken) (search needs, λ L s n h p. cast-null L _ _ _ _ (rw n (sym (p10 .is-token .ensures) ∙ not-false _ (p9 .if1 .left))) (p8 .if2 .left) (p5 .if3 .left) (c .before .before .before .refers .ensures (L .parents) h p) (c .before .before .if4 .left) refl)
+    rw (c .moved2 .ensures, c .before .if5 .taken) (search needs, λ L s n h p. cast-null L _ _ _ _ (rw n (sym (c .before .before .before .before .before .before .before .before .before .before .is-token .ensures) ∙ not-false _ (c .before .before .before .before .before .before .before .before .before .if1 .left))) (c .before .before .before .before .before .before .before .before .if2 .left) (c .before .before .before .before .before .if3 .left) (c .before .before .before .refers .ensures (L .parents) h p) (c .before .before .if4 .left) refl)
 
 ends-requires-4 : tie.Need-ends-requires-4
 ends-requires-4 c κs = search needs
 
 returns-6 : tie.Need-returns-6
 returns-6 c =
-    let p5 = c .before .before .before .before .before in
-    let p8 = p5 .before .before .before in
-    let p9 = p8 .before in
-    let p10 = p9 .before in
-    rw (c .ends4 .ensures, c .before .if5 .left) (search needs, λ L s n h p. cast-ends L _ _ _ _ (rw n (sym (p10 .is-token .ensures) ∙ not-false _ (p9 .if1 .left))) (p8 .if2 .left) (p5 .if3 .left) (c .before .before .before .refers .ensures (L .parents) h p) (c .before .before .if4 .left) refl)
+    rw (c .ends4 .ensures, c .before .if5 .left) (search needs, λ L s n h p. cast-ends L _ _ _ _ (rw n (sym (c .before .before .before .before .before .before .before .before .before .before .is-token .ensures) ∙ not-false _ (c .before .before .before .before .before .before .before .before .before .if1 .left))) (c .before .before .before .before .before .before .before .before .if2 .left) (c .before .before .before .before .before .if3 .left) (c .before .before .before .refers .ensures (L .parents) h p) (c .before .before .if4 .left) refl)
 
 pub cast-spec : {M : Type 1} → statement M
 cast-spec =

@@ -12,8 +12,7 @@ related-bits-requires c κs = search needs
 
 returns-2 : tie.Need-returns-2
 returns-2 c =
-    let p4 = c .before .before .before .before in
-    λ h l. compared-narrow _ _ _ _ _ (c .before .before .before .if1 .left) (c .before .if3 .taken) (p4 .fits .a .fits) (p4 .fits .b .fits) (c .related-bits .ensures)
+    λ h l. compared-narrow _ _ _ _ _ (c .before .before .before .if1 .left) (c .before .if3 .taken) (c .before .before .before .before .fits .a .fits) (c .before .before .before .before .fits .b .fits) (c .related-bits .ensures)
 
 returns-3 : tie.Need-returns-3
 returns-3 c =
@@ -24,17 +23,14 @@ related-bits-requires-2 c κs = search needs
 
 returns-4 : tie.Need-returns-4
 returns-4 c =
-    let p4 = c .before .before .before .before in
-    let p5 = p4 .before in
-    λ h l. compared-reference _ _ _ _ h l (p4 .if1 .left) _ (omega arith) (c .before .if4 .left) (p5 .fits .a .fits) (p5 .fits .b .fits) (c .related-bits2 .ensures)
+    λ h l. compared-reference _ _ _ _ h l (c .before .before .before .before .if1 .left) _ (omega arith) (c .before .if4 .left) (c .before .before .before .before .before .fits .a .fits) (c .before .before .before .before .before .fits .b .fits) (c .related-bits2 .ensures)
 
 related-bits-requires-3 : tie.Need-related-bits-requires-3
 related-bits-requires-3 c κs = search needs
 
 returns-5 : tie.Need-returns-5
 returns-5 c =
-    let p4 = c .before .before .before .before in
-    λ h l. compared-wide _ _ _ _ _ (c .before .before .before .if1 .left) (c .before .if5 .taken) (p4 .fits .a .fits) (p4 .fits .b .fits) (c .related-bits3 .ensures)
+    λ h l. compared-wide _ _ _ _ _ (c .before .before .before .if1 .left) (c .before .if5 .taken) (c .before .before .before .before .fits .a .fits) (c .before .before .before .before .fits .b .fits) (c .related-bits3 .ensures)
 
 related-real-requires : tie.Need-related-real-requires
 related-real-requires c κs = search needs

@@ -32,8 +32,7 @@ add-j c = search needs
 
 element-copy-out-kind-of : tie.Need-element-copy-out-kind-of
 element-copy-out-kind-of c =
-    let p6 = c .before .before .before .before .before .before in
-    omega (arith, p6 .pre .1 .1 .most (p6 .args .g .method))
+    omega (arith, c .before .before .before .before .before .before .pre .1 .1 .most (c .before .before .before .before .before .before .args .g .method))
 
 kind-of-requires : tie.Need-kind-of-requires
 kind-of-requires c κs = search needs
@@ -43,18 +42,14 @@ mul-push c = search needs
 
 element-copy-out-push : tie.Need-element-copy-out-push
 element-copy-out-push c =
-    let p8 = c .before .before .before .before .before .before .before .before in
-    omega (arith, p8 .pre .1 .1 .most (p8 .args .g .method))
+    omega (arith, c .before .before .before .before .before .before .before .before .pre .1 .1 .most (c .before .before .before .before .before .before .before .before .args .g .method))
 
 push-requires : tie.Need-push-requires
 push-requires c κs = search needs
 
 returns-2 : tie.Need-returns-2
 returns-2 c =
-    let p7 = c .before .before .before .before .before .before .before in
-    let p8 = p7 .before in
-    let p10 = p8 .before .before in
-    (c .push .ensures .0, λ L s e t a. instead (ldarg-pushes L _ _ _ (below _ a (p8 .wide .ensures .0) (p7 .if1 .left)) t (c .before .before .kind-of .ensures)) (c .push .ensures .1 L (withArgs s (p10 .args .args .now)) e))
+    (c .push .ensures .0, λ L s e t a. instead (ldarg-pushes L _ _ _ (below _ a (c .before .before .before .before .before .before .before .before .wide .ensures .0) (c .before .before .before .before .before .before .before .if1 .left)) t (c .before .before .kind-of .ensures)) (c .push .ensures .1 L (withArgs s (c .before .before .before .before .before .before .before .before .before .before .args .args .now)) e))
 
 pub ldarg-spec : {M : Type 1} → statement M
 ldarg-spec =

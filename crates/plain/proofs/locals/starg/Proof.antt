@@ -37,10 +37,7 @@ ends-requires-2 c κs = search needs
 
 returns-2 : tie.Need-returns-2
 returns-2 c =
-    let p5 = c .before .before .before .before .before in
-    let p6 = p5 .before in
-    let p8 = p6 .before .before in
-    rw (c .ends2 .ensures) (search needs, λ L s t a f h p. refused _ (starg-pops L _ _ _ (below _ a (p6 .wide .ensures .0) (p5 .if1 .left)) t ∙ c .before .before .before .popped .ensures .1 L (withArgs s (p8 .args .args .now)) _ f h p) (c .before .if2 .taken))
+    rw (c .ends2 .ensures) (search needs, λ L s t a f h p. refused _ (starg-pops L _ _ _ (below _ a (c .before .before .before .before .before .before .wide .ensures .0) (c .before .before .before .before .before .if1 .left)) t ∙ c .before .before .before .popped .ensures .1 L (withArgs s (c .before .before .before .before .before .before .before .before .args .args .now)) _ f h p) (c .before .if2 .taken))
 
 sub-d : tie.Need-sub-d
 sub-d c = omega (arith, c .before .before .before .popped .ensures .0 (c .before .if2 .left))
@@ -56,8 +53,7 @@ mul-args c = search needs
 
 element-write-args : tie.Need-element-write-args
 element-write-args c =
-    let p9 = c .before .before .before .before .before .before .before .before .before in
-    omega (arith, p9 .pre .1 .most (p9 .args .g .method))
+    omega (arith, c .before .before .before .before .before .before .before .before .before .pre .1 .most (c .before .before .before .before .before .before .before .before .before .args .g .method))
 
 moved-requires : tie.Need-moved-requires
 moved-requires c κs = search needs
@@ -65,12 +61,8 @@ moved-requires c κs = search needs
 returns-3 : tie.Need-returns-3
 unfolding goto
 returns-3 c =
-    let p5 = c .before .before .before .before .before in
-    let p7 = p5 .before .before in
-    let p8 = p7 .before in
-    let p10 = p8 .before .before in
     rw (c .moved .ensures)
-    (omega (arith, p10 .pre .0), λ L s t a f h p. passed _ (starg-pops L _ _ _ (below _ a (p8 .wide .ensures .0) (p7 .if1 .left)) t ∙ p5 .popped .ensures .1 L (withArgs s (p10 .args .args .now)) _ f h p) (c .before .before .before .if2 .left) refl)
+    (omega (arith, c .before .before .before .before .before .before .before .before .before .before .pre .0), λ L s t a f h p. passed _ (starg-pops L _ _ _ (below _ a (c .before .before .before .before .before .before .before .before .wide .ensures .0) (c .before .before .before .before .before .before .before .if1 .left)) t ∙ c .before .before .before .before .before .popped .ensures .1 L (withArgs s (c .before .before .before .before .before .before .before .before .before .before .args .args .now)) _ f h p) (c .before .before .before .if2 .left) refl)
 
 pub starg-spec : {M : Type 1} → statement M
 starg-spec =

@@ -69,15 +69,11 @@ ends-requires-2 c κs = search needs
 returns-2 : tie.Need-returns-2
 unfolding put goto
 returns-2 c =
-    let p4 = c .before .before .before .before in
-    let p10 = p4 .before .before .before .before .before .before in
-    rw (c .moved .ensures) (search needs, λ s f. binary-cell _ _ _ (p10 .if1 .left) (sym (ap given (c .before .before .o .given .1)) ∙ p4 .operated .ensures (f .most _) (f .most _)))
+    rw (c .moved .ensures) (search needs, λ s f. binary-cell _ _ _ (c .before .before .before .before .before .before .before .before .before .before .if1 .left) (sym (ap given (c .before .before .o .given .1)) ∙ c .before .before .before .before .operated .ensures (f .most _) (f .most _)))
 
 returns-3 : tie.Need-returns-3
 returns-3 c =
-    let p4 = c .before .before .before .before in
-    let p10 = p4 .before .before .before .before .before .before in
-    rw (c .ends2 .ensures) (search needs, λ s f. binary-ends _ _ _ (p10 .if1 .left) (sym (ap given (c .before .before .o2 .given .1)) ∙ p4 .operated .ensures (f .most _) (f .most _)))
+    rw (c .ends2 .ensures) (search needs, λ s f. binary-ends _ _ _ (c .before .before .before .before .before .before .before .before .before .before .if1 .left) (sym (ap given (c .before .before .o2 .given .1)) ∙ c .before .before .before .before .operated .ensures (f .most _) (f .most _)))
 
 pub binary-spec : {M : Type 1} → statement M
 binary-spec =

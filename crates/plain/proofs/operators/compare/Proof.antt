@@ -16,8 +16,7 @@ enum-known-said c = search needs
 returns : tie.Need-returns
 unfolding flag
 returns c =
-    let p4 = c .before .before .before .before in
-    λ h l. compare-says _ _ _ _ _ {t = true} (sym (ap says (c .before .before .said .given .1) ∙ rw (c .if1 .taken)) ∙ p4 .related .ensures h l)
+    λ h l. compare-says _ _ _ _ _ {t = true} (sym (ap says (c .before .before .said .given .1) ∙ rw (c .if1 .taken)) ∙ c .before .before .before .before .related .ensures h l)
 
 enum-told : tie.Need-enum-told
 enum-told c = search needs
@@ -25,8 +24,7 @@ enum-told c = search needs
 returns-2 : tie.Need-returns-2
 unfolding flag
 returns-2 c =
-    let p4 = c .before .before .before .before in
-    λ h l. compare-says _ _ _ _ _ {t = false} (sym (ap says (c .before .before .said .given .1) ∙ rw (c .if1 .left)) ∙ p4 .related .ensures h l)
+    λ h l. compare-says _ _ _ _ _ {t = false} (sym (ap says (c .before .before .said .given .1) ∙ rw (c .if1 .left)) ∙ c .before .before .before .before .related .ensures h l)
 
 returns-3 : tie.Need-returns-3
 returns-3 c =

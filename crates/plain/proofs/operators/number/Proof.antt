@@ -19,9 +19,7 @@ tagged-requires c κs = search needs
 
 returns-3 : tie.Need-returns-3
 returns-3 c =
-    let p4 = c .before .before .before .before in
-    let p5 = p4 .before in
-    λ h l. c .tagged .ensures ∙ number-narrow _ _ _ _ h l (p4 .if1 .left) _ (omega arith) (p5 .fits .a .fits) (p5 .fits .b .fits) (c .before .number-bits .ensures)
+    λ h l. c .tagged .ensures ∙ number-narrow _ _ _ _ h l (c .before .before .before .before .if1 .left) _ (omega arith) (c .before .before .before .before .before .fits .a .fits) (c .before .before .before .before .before .fits .b .fits) (c .before .number-bits .ensures)
 
 number-bits-requires-2 : tie.Need-number-bits-requires-2
 number-bits-requires-2 c κs = search needs
@@ -31,9 +29,7 @@ tagged-requires-2 c κs = search needs
 
 returns-4 : tie.Need-returns-4
 returns-4 c =
-    let p4 = c .before .before .before .before in
-    let p5 = p4 .before in
-    λ h l. c .tagged2 .ensures ∙ number-wide _ _ _ _ h l (p4 .if1 .left) _ (c .before .before .if4 .taken) (p5 .fits .a .fits) (p5 .fits .b .fits) (c .before .number-bits2 .ensures)
+    λ h l. c .tagged2 .ensures ∙ number-wide _ _ _ _ h l (c .before .before .before .before .if1 .left) _ (c .before .before .if4 .taken) (c .before .before .before .before .before .fits .a .fits) (c .before .before .before .before .before .fits .b .fits) (c .before .number-bits2 .ensures)
 
 number-real-requires : tie.Need-number-real-requires
 number-real-requires c κs = search needs

@@ -17,8 +17,7 @@ shift-bits-requires c κs = search needs
 
 returns-4 : tie.Need-returns-4
 returns-4 c =
-    let p4 = c .before .before .before .before in
-    λ h l. shift-bits _ _ _ _ h l (c .before .before .before .if1 .left) _ (record { some-kind = c .before .before .if2 .left; no-real = c .before .if3 .left; few = h }) (p4 .fits .a .fits) (c .shift-bits .ensures)
+    λ h l. shift-bits _ _ _ _ h l (c .before .before .before .if1 .left) _ (record { some-kind = c .before .before .if2 .left; no-real = c .before .if3 .left; few = h }) (c .before .before .before .before .fits .a .fits) (c .shift-bits .ensures)
 
 pub shift-spec : {M : Type 1} → statement M
 shift-spec = tie.close (tie.spec returns returns-2 returns-3 shift-bits-requires returns-4)

@@ -57,15 +57,11 @@ ends-requires-2 c κs = search needs
 returns-2 : tie.Need-returns-2
 unfolding put goto
 returns-2 c =
-    let p4 = c .before .before .before .before in
-    let p8 = p4 .before .before .before .before in
-    rw (c .moved .ensures) (search needs, λ s f. unary-cell _ _ _ (p8 .if1 .left) (sym (ap given (c .before .before .o .given .1)) ∙ p4 .converted .ensures (f .most _)))
+    rw (c .moved .ensures) (search needs, λ s f. unary-cell _ _ _ (c .before .before .before .before .before .before .before .before .if1 .left) (sym (ap given (c .before .before .o .given .1)) ∙ c .before .before .before .before .converted .ensures (f .most _)))
 
 returns-3 : tie.Need-returns-3
 returns-3 c =
-    let p4 = c .before .before .before .before in
-    let p8 = p4 .before .before .before .before in
-    rw (c .ends2 .ensures) (search needs, λ s f. unary-ends _ _ _ (p8 .if1 .left) (sym (ap given (c .before .before .o2 .given .1)) ∙ p4 .converted .ensures (f .most _)))
+    rw (c .ends2 .ensures) (search needs, λ s f. unary-ends _ _ _ (c .before .before .before .before .before .before .before .before .if1 .left) (sym (ap given (c .before .before .o2 .given .1)) ∙ c .before .before .before .before .converted .ensures (f .most _)))
 
 pub unary-spec : {M : Type 1} → statement M
 unary-spec =

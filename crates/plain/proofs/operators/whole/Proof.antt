@@ -21,9 +21,7 @@ tagged-requires c κs = search needs
 
 returns-4 : tie.Need-returns-4
 returns-4 c =
-    let p4 = c .before .before .before .before in
-    let p5 = p4 .before in
-    λ h l. c .tagged .ensures ∙ whole-bits _ _ _ _ h l (p4 .if1 .left) (record { some-kind = c .before .before .before .if2 .left; no-real = c .before .before .if3 .left; few = h }) (p5 .fits .a .fits) (p5 .fits .b .fits) _ (c .before .whole-bits .ensures)
+    λ h l. c .tagged .ensures ∙ whole-bits _ _ _ _ h l (c .before .before .before .before .if1 .left) (record { some-kind = c .before .before .before .if2 .left; no-real = c .before .before .if3 .left; few = h }) (c .before .before .before .before .before .fits .a .fits) (c .before .before .before .before .before .fits .b .fits) _ (c .before .whole-bits .ensures)
 
 pub whole-spec : {M : Type 1} → statement M
 whole-spec =

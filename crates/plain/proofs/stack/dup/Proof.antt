@@ -29,8 +29,7 @@ push-requires c κs = search needs
 
 returns-2 : tie.Need-returns-2
 returns-2 c =
-    let p6 = c .before .before .before .before .before .before in
-    (c .push .ensures .0, λ L s e. instead (dup-pushes L _ _ (p6 .if1 .left)) (c .push .ensures .1 L s e))
+    (c .push .ensures .0, λ L s e. instead (dup-pushes L _ _ (c .before .before .before .before .before .before .if1 .left)) (c .push .ensures .1 L s e))
 
 pub dup-spec : {M : Type 1} → statement M
 dup-spec =

@@ -29,16 +29,14 @@ add-i c = search needs
 
 element-write-kinds : tie.Need-element-write-kinds
 element-write-kinds c =
-    let p4 = c .before .before .before .before in
-    omega (arith, p4 .pre .1 .most (p4 .args .g .method))
+    omega (arith, c .before .before .before .before .pre .1 .most (c .before .before .before .before .args .g .method))
 
 mul-bits : tie.Need-mul-bits
 mul-bits c = search needs
 
 element-write-bits : tie.Need-element-write-bits
 element-write-bits c =
-    let p4 = c .before .before .before .before in
-    omega (arith, p4 .pre .1 .most (p4 .args .g .method))
+    omega (arith, c .before .before .before .before .pre .1 .most (c .before .before .before .before .args .g .method))
 
 add-moved : tie.Need-add-moved
 add-moved c = search needs
@@ -49,9 +47,8 @@ moved-requires c κs = search needs
 returns-2 : tie.Need-returns-2
 unfolding put goto
 returns-2 c =
-    let p5 = c .before .before .before .before .before in
     rw (c .moved .ensures)
-    (omega (arith, p5 .pre .1 .most (p5 .args .g .method)), λ L s e. push-goes L _ _ _ _ (within _ e (c .before .before .before .wide .ensures .0) (c .before .before .if1 .left)))
+    (omega (arith, c .before .before .before .before .before .pre .1 .most (c .before .before .before .before .before .args .g .method)), λ L s e. push-goes L _ _ _ _ (within _ e (c .before .before .before .wide .ensures .0) (c .before .before .if1 .left)))
 
 pub push-spec : {M : Type 1} → statement M
 push-spec =

@@ -30,8 +30,7 @@ element-copy-out-if2 c = search needs
 returns-2 : tie.Need-returns-2
 unfolding pick guard _>>=_ fitsC fitsBy
 returns-2 c =
-    let p4 = c .before .before .before .before in
-    (λ z. search needs, λ L s t f h p. popping-tests L _ _ t (p4 .if1 .left) (fits-own _ _ _ _ _ (f .most _) (c .if2 .taken)))
+    (λ z. search needs, λ L s t f h p. popping-tests L _ _ t (c .before .before .before .before .if1 .left) (fits-own _ _ _ _ _ (f .most _) (c .if2 .taken)))
 
 refusal-requires : tie.Need-refusal-requires
 refusal-requires c κs = search needs

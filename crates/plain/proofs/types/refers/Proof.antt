@@ -25,8 +25,7 @@ wide-requires c κs = search needs
 
 returns-4 : tie.Need-returns-4
 returns-4 c =
-    let p6 = c .before .before .before .before .before .before in
-    λ ps h p. absurd (omega (arith, p .few (p6 .args .bits - 1), c .before .wide .ensures .0))
+    λ ps h p. absurd (omega (arith, p .few (c .before .before .before .before .before .before .args .bits - 1), c .before .wide .ensures .0))
 
 mul-result : tie.Need-mul-result
 mul-result c = search needs
@@ -39,9 +38,7 @@ element-copy-out-result c = search needs
 
 returns-5 : tie.Need-returns-5
 returns-5 c =
-    let p4 = c .before .before .before .before in
-    let p6 = p4 .before .before in
-    λ ps h p. rw (c .before .before .wide .ensures .0) (refers-in ps _ _ h p _ _ (p6 .if1 .left) (p4 .if3 .left))
+    λ ps h p. rw (c .before .before .wide .ensures .0) (refers-in ps _ _ h p _ _ (c .before .before .before .before .before .before .if1 .left) (c .before .before .before .before .if3 .left))
 
 pub refers-spec : {M : Type 1} → statement M
 refers-spec =

@@ -33,14 +33,12 @@ fits-requires c κs = search needs
 returns-2 : tie.Need-returns-2
 unfolding pick guard _>>=_ fitsC fitsBy
 returns-2 c =
-    let p5 = c .before .before .before .before .before in
-    (λ z. search needs, λ L s t h p. popping-tests L _ _ t (p5 .if1 .left) (sym (c .before .fits2 .ensures (L .parents) h p) ∙ c .if2 .taken))
+    (λ z. search needs, λ L s t h p. popping-tests L _ _ t (c .before .before .before .before .before .if1 .left) (sym (c .before .fits2 .ensures (L .parents) h p) ∙ c .if2 .taken))
 
 returns-3 : tie.Need-returns-3
 unfolding pick guard _>>=_ fitsC fitsBy
 returns-3 c =
-    let p5 = c .before .before .before .before .before in
-    (λ z. search needs, λ L s t h p. popping-tests L _ _ t (p5 .if1 .left) (sym (c .before .fits2 .ensures (L .parents) h p) ∙ c .if2 .left))
+    (λ z. search needs, λ L s t h p. popping-tests L _ _ t (c .before .before .before .before .before .if1 .left) (sym (c .before .fits2 .ensures (L .parents) h p) ∙ c .if2 .left))
 
 pub refusal-spec : {M : Type 1} → statement M
 refusal-spec =

@@ -1,0 +1,3 @@
+-- What the contracts of the tables speak of.
+pub mod Rows
+pub mod Told

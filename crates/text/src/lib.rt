@@ -1,0 +1,4 @@
+// The line that `turn` prints, and the reading of its input.
+pub mod input;
+pub mod line;
+pub mod numbers;

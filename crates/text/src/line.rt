@@ -1,0 +1,75 @@
+// The line that `turn` prints.
+ghost use mathlib.Core.Path.{_≡_};
+ghost use mathlib.Core.List.{_++_};
+ghost use Prim.Native.Nat.{_≤_};
+ghost use lib.ListN.{take};
+ghost use Rattle.model.specs.Turn.{decimal, space, textOf, print};
+ghost use Rattle.text.specs.Append.{Appended};
+ghost use Rattle.text.specs.Values.{valueOf};
+use super::numbers::decimal;
+use super::numbers::hex;
+use super::numbers::put;
+use super::numbers::signed;
+
+// What a run hands back, as bits. An entry returns no class.
+pub enum Value {
+    None,
+    Int32(u64),
+    Int64(u64),
+    Real(u64),
+}
+
+// A value: decimal, F as 16 upper-case hex digits, `-` for none.
+pub fn value_text(out: &mut [u8], at: usize, value: Value) -> usize
+    ensures { λ r. ⌜ Appended (now (out .entry)) at (textOf (valueOf value)) (now (out .exit)) r ⌝ }
+{
+    match value {
+        Value::None => put(out, at, b'-'),
+        Value::Int32(n) => signed(out, at, false, n),
+        Value::Int64(n) => signed(out, at, true, n),
+        Value::Real(n) => hex(out, at, 16, n),
+    }
+}
+
+// A number and the space after it.
+pub fn number(out: &mut [u8], at: usize, n: usize) -> usize
+    ensures { λ r. ⌜ Appended (now (out .entry)) at (decimal n ++ space) (now (out .exit)) r ⌝ }
+{
+    let next = decimal(out, at, n as u64);
+    put(out, next, b' ')
+}
+
+// The line, after what `out` holds up to `at`.
+pub fn append_line(
+    out: &mut [u8],
+    at: usize,
+    ending: usize,
+    method: usize,
+    offset: usize,
+    steps: usize,
+    value: Value,
+) -> usize
+    ensures { λ r. ⌜ Appended (now (out .entry)) at (print (record { ending = ending; method = method; offset = offset; steps = steps; value = valueOf value })) (now (out .exit)) r ⌝ }
+{
+    let a = number(out, at, ending);
+    let b = number(out, a, method);
+    let c = number(out, b, offset);
+    let d = number(out, c, steps);
+    let e = value_text(out, d, value);
+    put(out, e, b'\n')
+}
+
+// The line alone, and how long it is.
+pub fn line(
+    ending: usize,
+    method: usize,
+    offset: usize,
+    steps: usize,
+    value: Value,
+    out: &mut [u8; 128],
+) -> usize
+    ensures { λ r. ⌜ take r (now (out .exit)) ≡ print (record { ending = ending; method = method; offset = offset; steps = steps; value = valueOf value }) ⌝ }
+    ensures room { λ r. ⌜ r ≤ 128 ⌝ }
+{
+    append_line(out, 0, ending, method, offset, steps, value)
+}
