@@ -15,6 +15,7 @@ use Rattle.cells.specs.declared.Derived.{Derived}
 use Rattle.cells.specs.Cells.{Went, runs, withRegs, withStack, withArgs, withMarks, withHeap, bitsAt, classOf, copyOf, entered, enterC, handed, startingC, isToken, rowOfToken, dueC, takingC, callRow, callC, chosenC, callvirtRow, callvirtC, madeC, handedNew, newobjRow, newobjC}
 use Rattle.plain.specs.Steps.{Meets}
 use Rattle.plain.proofs.Answers.{stops}
+use Rattle.frames.specs.Lent.{invoked}
 use Rattle.frames.proofs.Begun.{enter-full, enter-goes}
 
 -- ---- The frame of a called method
@@ -37,7 +38,7 @@ module _ (L : Loaded) (c : Cells) (t : ℕ) {b : Bool} {count : ℕ} {sorts : Li
   call-none h = stops refl (simp (n, s, ← q, h))
 
   pub call-takes : b ≡ true → {w more : ℕ} → w ≡ getD (L .arguments) (rowOfToken t) 0 → more ≡ dueC (getD (L .returns) (rowOfToken t) 0)
-      → callC L c t ≡ takingC L c w (rowOfToken t * 24) more (λ d. startingC L c (getD (L .owners) (rowOfToken t) 0) (λ marks. enterC L (withMarks (handed c w d) marks) (rowOfToken t) d))
+      → callC L c t ≡ takingC L c w (rowOfToken t * 24) more (invoked L c (rowOfToken t) w)
   unfolding callC callRow guard _>>=_
   call-takes h e f = simp (n, s, ← q, h, ← e, ← f)
 
@@ -49,13 +50,12 @@ module _ (L : Loaded) (D : Derived) (c : Cells) (t : ℕ) {b : Bool} {count : �
   callvirt-none h = stops refl (simp (n, s, ← q, h))
 
   pub callvirt-takes : b ≡ true → {w more : ℕ} → w ≡ getD (L .arguments) (rowOfToken t) 0 → more ≡ dueC (getD (L .returns) (rowOfToken t) 0)
-      → callvirtC L D c t ≡ takingC L c w (rowOfToken t * 24) more (λ d. guard (not (eqb (bitsAt c d) 0)) 34 >>= λ _. startingC L c (getD (L .owners) (chosenC L D (rowOfToken t) (classOf (c .classes) (bitsAt c d))) 0) (λ marks. enterC L (withMarks (handed c w d) marks) (chosenC L D (rowOfToken t) (classOf (c .classes) (bitsAt c d))) d))
+      → callvirtC L D c t ≡ takingC L c w (rowOfToken t * 24) more (λ d. guard (not (eqb (bitsAt c d) 0)) 34 >>= λ _. invoked L c (chosenC L D (rowOfToken t) (classOf (c .classes) (bitsAt c d))) w d)
   unfolding callvirtC callvirtRow guard _>>=_
   callvirt-takes h e f = simp (n, s, ← q, h, ← e, ← f)
 
 -- the method taken by another name
-pub taken-same : (L : Loaded) (c : Cells) (w d : ℕ) {taken row : ℕ} → taken ≡ row
-    → startingC L c (getD (L .owners) row 0) (λ marks. enterC L (withMarks (handed c w d) marks) row d) ≡ startingC L c (getD (L .owners) taken 0) (λ marks. enterC L (withMarks (handed c w d) marks) taken d)
+pub taken-same : (L : Loaded) (c : Cells) (w d : ℕ) {taken row : ℕ} → taken ≡ row → invoked L c row w d ≡ invoked L c taken w d
 taken-same L c w d e = rw e
 
 -- a test that there is an object
@@ -84,13 +84,17 @@ module _ (L : Loaded) (D : Derived) (r k : ℕ) {sorts : List ℕ} (s : L .sorts
 
 -- ---- newobj
 
+-- the class being started, an object is made and its constructor's frame pushed
+abbrev pub making : Loaded → Cells → ℕ → ℕ → ℕ → ℕ → List ℕ → Answer ℕ Went
+making L c n k row d marks = guard (ltb (c .regs .made) 256) 37 >>= λ _. enterC L (withMarks (madeC (handedNew c n d) k d) marks) row (d + 1)
+
 module _ (L : Loaded) (c : Cells) (t : ℕ) {b : Bool} {count : ℕ} {sorts : List ℕ} (n : L .methods ≡ count) (s : L .sorts ≡ sorts) (q : b ≡ (isToken 6 count t && eqb (getD sorts (rowOfToken t) 0) 3)) where
   pub newobj-none : b ≡ false → Meets 42 c c (newobjC L c t)
   unfolding newobjC guard _>>=_
   newobj-none h = stops refl (simp (n, s, ← q, h))
 
   pub newobj-takes : b ≡ true → {w k : ℕ} → w ≡ getD (L .arguments) (rowOfToken t) 0 → k ≡ getD (L .owners) (rowOfToken t) 0
-      → newobjC L c t ≡ takingC L c (w - 1) (rowOfToken t * 24 + 1) 1 (λ d. startingC L c k (λ marks. guard (ltb (c .regs .made) 256) 37 >>= λ _. enterC L (withMarks (madeC (handedNew c (w - 1) d) k d) marks) (rowOfToken t) (d + 1)))
+      → newobjC L c t ≡ takingC L c (w - 1) (rowOfToken t * 24 + 1) 1 (λ d. startingC L c k (making L c (w - 1) k (rowOfToken t) d))
   unfolding newobjC newobjRow guard _>>=_
   newobj-takes h e f = simp (n, s, ← q, h, ← e, ← f)
 
@@ -98,14 +102,14 @@ pub new-none : (n : ℕ) (right : Answer ℕ Went) → 256 ≤ n → (guard (ltb
 unfolding guard _>>=_
 new-none n right h = simp (le-ltb _ _ h)
 
-module _ (L : Loaded) (c : Cells) (n k row d e : ℕ) (marks : List ℕ) where
-  pub new-full : c .regs .made < 256 → 31 ≤ c .regs .top → (guard (ltb (c .regs .made) 256) 37 >>= λ _. enterC L (withMarks (madeC (handedNew c n d) k d) marks) row e) ≡ bad 36
+module _ (L : Loaded) (c : Cells) (n k row d : ℕ) (marks : List ℕ) where
+  pub new-full : c .regs .made < 256 → 31 ≤ c .regs .top → making L c n k row d marks ≡ bad 36
   unfolding madeC handedNew guard _>>=_
-  new-full h f = simp (lt-ltb _ _ h) (enter-full L _ row e f)
+  new-full h f = simp (lt-ltb _ _ h) (enter-full L _ row (d + 1) f)
 
-  pub new-goes : c .regs .made < 256 → c .regs .top < 31 → (guard (ltb (c .regs .made) 256) 37 >>= λ _. enterC L (withMarks (madeC (handedNew c n d) k d) marks) row e) ≡ ok (runs (entered L (withMarks (madeC (handedNew c n d) k d) marks) row e))
+  pub new-goes : c .regs .made < 256 → c .regs .top < 31 → making L c n k row d marks ≡ ok (runs (entered L (withMarks (madeC (handedNew c n d) k d) marks) row (d + 1)))
   unfolding madeC handedNew guard _>>=_
-  new-goes h f = simp (lt-ltb _ _ h) (enter-goes L _ row e f)
+  new-goes h f = simp (lt-ltb _ _ h) (enter-goes L _ row (d + 1) f)
 
 -- the cells in which the constructor's frame is pushed, its arguments laid
 abbrev pub madeCells : Cells → List ℕ → ℕ → ℕ → Cells

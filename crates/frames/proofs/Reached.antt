@@ -18,7 +18,7 @@ use Rattle.plain.proofs.Fits.{refers-none}
 use Rattle.frames.specs.Lent.{FieldsOf}
 use Rattle.frames.proofs.Rows.{and-second}
 
--- a cell that fits a class and is not null refers to an object
+-- the number in a cell that fits a class is at most 256
 pub object-low : (L : Loaded) (c : Cells) (table : List ℕ) (d k : ℕ) → HoldsFits (L .parents) table → Placed (c .classes) → fitsC L c d (32 + k) ≡ true → bitsAt c d ≤ 256
 unfolding fitsC pick
 object-low L c table d k H P f = go (leb (bitsAt c d) 256) refl where
@@ -35,13 +35,25 @@ object-low L c table d k H P f = go (leb (bitsAt c d) 256) refl where
 
 -- ---- Instance fields
 
+-- the class being started, a field of the object n is loaded over its reference
+abbrev pub loaded : Cells → ℕ → ℕ → ℕ → ℕ → List ℕ → Answer ℕ Went
+loaded c next byte slot n marks =
+    guard (not (eqb n 0)) 34 >>= λ _.
+    ok (runs (withMarks (put c next (c .regs .depth - 1) (kindOfByte byte) (getD (c .heap) ((n - 1) * 8 + slot) 0)) marks))
+
+-- and a field of the object under the top is stored
+abbrev pub stored : Cells → ℕ → ℕ → List ℕ → Answer ℕ Went
+stored c next slot marks =
+    guard (not (eqb (bitsAt c (c .regs .depth - 2)) 0)) 34 >>= λ _.
+    ok (runs (withMarks (withHeap (goto c next (c .regs .depth - 2)) (c .classes) (set (c .heap) ((bitsAt c (c .regs .depth - 2) - 1) * 8 + slot) (bitsAt c (c .regs .depth - 1)))) marks))
+
 module _ (L : Loaded) (c : Cells) (t next : ℕ) {count : ℕ} {owners flags types slots : List ℕ} (q : FieldsOf L count owners flags types slots) {b : Bool} (h : b ≡ (isToken 4 count t && eqb (getD flags (rowOfToken t) 0) 0)) where
   pub ldfld-none : b ≡ false → Meets 42 c c (ldfldC L c t next)
   unfolding ldfldC guard _>>=_
   ldfld-none z = stops refl (simp (q .same-count, q .same-flags, ← h, z))
 
   pub ldfld-pops : b ≡ true
-      → ldfldC L c t next ≡ poppingC L c (32 + getD owners (rowOfToken t) 0) (λ n. startingC L c (getD owners (rowOfToken t) 0) (λ marks. guard (not (eqb n 0)) 34 >>= λ _. ok (runs (withMarks (put c next (c .regs .depth - 1) (kindOfByte (getD types (rowOfToken t) 0)) (getD (c .heap) ((n - 1) * 8 + getD slots (rowOfToken t) 0) 0)) marks))))
+      → ldfldC L c t next ≡ poppingC L c (32 + getD owners (rowOfToken t) 0) (λ n. startingC L c (getD owners (rowOfToken t) 0) (loaded c next (getD types (rowOfToken t) 0) (getD slots (rowOfToken t) 0) n))
   unfolding ldfldC ldfldRow guard _>>=_
   ldfld-pops z = simp (q .same-count, q .same-flags, ← h, z, q .same-owners, q .same-types, q .same-slots)
 
@@ -65,11 +77,17 @@ module _ (L : Loaded) (c : Cells) (t next : ℕ) {count : ℕ} {owners flags typ
         stfld-unfit f = simp (q .same-count, q .same-flags, ← h, z, le-leb _ _ l, q .same-owners, q .same-types, ← xs, e, ← ys, f)
 
         pub stfld-starts : y ≡ true
-            → stfldC L c t next ≡ startingC L c (getD owners (rowOfToken t) 0) (λ marks. guard (not (eqb (bitsAt c (c .regs .depth - 2)) 0)) 34 >>= λ _. ok (runs (withMarks (withHeap (goto c next (c .regs .depth - 2)) (c .classes) (set (c .heap) ((bitsAt c (c .regs .depth - 2) - 1) * 8 + getD (L .slots) (rowOfToken t) 0) (bitsAt c (c .regs .depth - 1)))) marks)))
+            → stfldC L c t next ≡ startingC L c (getD owners (rowOfToken t) 0) (stored c next (getD (L .slots) (rowOfToken t) 0))
         unfolding stfldC stfldRow guard _>>=_
         stfld-starts f = simp (q .same-count, q .same-flags, ← h, z, le-leb _ _ l, q .same-owners, q .same-types, ← xs, e, ← ys, f)
 
 -- ---- Static fields
+
+abbrev pub loadedStatic : Cells → ℕ → ℕ → ℕ → List ℕ → Answer ℕ Went
+loadedStatic c next byte slot marks = ok (runs (withMarks (put c next (c .regs .depth) (kindOfByte byte) (getD (c .statics) slot 0)) marks))
+
+abbrev pub storedStatic : Cells → ℕ → ℕ → ℕ → List ℕ → Answer ℕ Went
+storedStatic c next slot n marks = ok (runs (withMarks (withStatics (goto c next (c .regs .depth - 1)) (set (c .statics) slot n)) marks))
 
 module _ (L : Loaded) (c : Cells) (t next : ℕ) {count : ℕ} {owners flags types slots : List ℕ} (q : FieldsOf L count owners flags types slots) {b : Bool} (h : b ≡ (isToken 4 count t && eqb (getD flags (rowOfToken t) 0) 1)) where
   pub ldsfld-none : b ≡ false → Meets 42 c c (ldsfldC L c t next)
@@ -77,7 +95,7 @@ module _ (L : Loaded) (c : Cells) (t next : ℕ) {count : ℕ} {owners flags typ
   ldsfld-none z = stops refl (simp (q .same-count, q .same-flags, ← h, z))
 
   pub ldsfld-room : b ≡ true → {x : Bool} → leb (c .regs .depth + 1) (getD (L .stacks) (c .regs .method) 0) ≡ x
-      → ldsfldC L c t next ≡ (guard x 44 >>= λ _. startingC L c (getD owners (rowOfToken t) 0) (λ marks. ok (runs (withMarks (put c next (c .regs .depth) (kindOfByte (getD types (rowOfToken t) 0)) (getD (c .statics) (getD slots (rowOfToken t) 0) 0)) marks))))
+      → ldsfldC L c t next ≡ (guard x 44 >>= λ _. startingC L c (getD owners (rowOfToken t) 0) (loadedStatic c next (getD types (rowOfToken t) 0) (getD slots (rowOfToken t) 0)))
   unfolding ldsfldC ldsfldRow guard _>>=_
   ldsfld-room z x = simp (q .same-count, q .same-flags, ← h, z, x, q .same-owners, q .same-types, q .same-slots)
 
@@ -86,7 +104,7 @@ module _ (L : Loaded) (c : Cells) (t next : ℕ) {count : ℕ} {owners flags typ
   stsfld-none z = stops refl (simp (q .same-count, q .same-flags, ← h, z))
 
   pub stsfld-pops : b ≡ true
-      → stsfldC L c t next ≡ poppingC L c (getD types (rowOfToken t) 0) (λ n. startingC L c (getD owners (rowOfToken t) 0) (λ marks. ok (runs (withMarks (withStatics (goto c next (c .regs .depth - 1)) (set (c .statics) (getD slots (rowOfToken t) 0) n)) marks))))
+      → stsfldC L c t next ≡ poppingC L c (getD types (rowOfToken t) 0) (λ n. startingC L c (getD owners (rowOfToken t) 0) (storedStatic c next (getD slots (rowOfToken t) 0) n))
   unfolding stsfldC stsfldRow guard _>>=_
   stsfld-pops z = simp (q .same-count, q .same-flags, ← h, z, q .same-owners, q .same-types, q .same-slots)
 

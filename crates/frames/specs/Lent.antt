@@ -2,12 +2,14 @@
 use Prim.Native.Nat.{ℕ}
 use mathlib.Core.Path.{_≡_}
 use mathlib.Core.List.{List}
+use lib.ListN.{getD}
 use lib.Dec.{eqb}
 use Rattle.model.specs.Answer.{Answer, ok, pick}
 use Rattle.tables.specs.declared.Loaded.{Loaded}
 use Rattle.cells.specs.declared.Regs.{Regs}
 use Rattle.cells.specs.declared.Cells.{Cells}
-use Rattle.cells.specs.Cells.{Went, over, withRegs, withStack, withArgs, withLocs, withWaiting, withStatics, withMarks, withHeap, valueDue}
+use Rattle.cells.specs.Cells.{Went, over, withRegs, withStack, withArgs, withLocs, withWaiting, withStatics, withMarks, withHeap, valueDue, handed, enterC, startingC}
+use Rattle.plain.specs.declared.Gone.{Gone}
 use Rattle.plain.specs.Steps.{answer, onClasses}
 
 -- ---- Cells with the lent parts in place
@@ -60,7 +62,17 @@ pub record FieldsOf (L : Loaded) (count : ℕ) (owners flags types slots : List 
   pub same-types : L .«field_types» ≡ types
   pub same-slots : L .slots ≡ slots
 
+-- ---- The end of a call
+
+-- the class of the method `row` is started, then its frame pushed, with n arguments from d on
+abbrev pub invoked : Loaded → Cells → ℕ → ℕ → ℕ → Answer ℕ Went
+invoked L c row n d = startingC L c (getD (L .owners) row 0) (λ marks. enterC L (withMarks (handed c n d) marks) row d)
+
 -- ---- The answer of a return
+
+-- a step that goes on in the caller
+abbrev pub backOf : ℕ → ℕ → ℕ → ℕ → ℕ → Gone
+backOf t m o d n = record { ending = 0; regs = record { top = t; method = m; at = o; depth = d; made = n } }
 
 -- 1 is over, with n values of the running frame
 unfoldable pub returned : ℕ → ℕ → Cells → Answer ℕ Went

@@ -12,19 +12,17 @@ use plain::Gone;
 use plain::stack::ends;
 use plain::stack::wide;
 ghost use mathlib.Core.Path.{_≡_};
-ghost use mathlib.Core.List.{List};
-ghost use Prim.Native.Nat.{ℕ, _+_, _≤_};
-ghost use lib.ListN.{getD};
+ghost use Prim.Native.Nat.{_+_, _≤_};
 ghost use Rattle.tables.specs.declared.Loaded.{Loaded};
 ghost use Rattle.cells.specs.declared.Cells.{Cells};
 ghost use Rattle.cells.specs.declared.Derived.{Derived};
-ghost use Rattle.cells.specs.Cells.{withMarks, classOf, startingC, enterC, handed, callC, chosenC, callvirtC};
+ghost use Rattle.cells.specs.Cells.{classOf, callC, chosenC, callvirtC};
 ghost use Rattle.plain.specs.Steps.{Ok, Few, Meets, HoldsFits, Placed};
-ghost use Rattle.frames.specs.Lent.{onCall, StartsOf, CallsOf};
+ghost use Rattle.frames.specs.Lent.{onCall, invoked, StartsOf, CallsOf};
 ghost use Rattle.frames.specs.Ranges.{StartRanges, CallRanges, ChoiceRanges};
 
 // A frame of the method `row`, whose n arguments stand on the stack from d on; its class is started first.
-pub fn invoke(
+fn invoke(
     g: Regs,
     bits: &[u64; 1024],
     args: &mut [u64; 256],
@@ -41,7 +39,7 @@ pub fn invoke(
     d: usize,
 ) -> Gone
     requires { ⌜ Ok g ⌝ ∗ ⌜ (row ≤ 128) × (n ≤ 8) × (d + n ≤ 32) ⌝ ∗ ⌜ Few 32 (now owners) ⌝ ∗ ⌜ StartRanges (now locals) (now initialisers) ⌝ }
-    ensures { λ r. ⌜ Ok (r .regs) ⌝ ∗ ⌜ ((L : Loaded) (c : Cells) → L .owners ≡ now (owners .entry) → StartsOf L (now (locals .entry)) (now (initialisers .entry)) → Few 1 (now (marks .entry)) → Meets (r .ending) (onCall c (r .regs) (c .kinds) (now (bits .entry)) (now (args .exit)) (now (locs .exit)) (now (ats .exit)) (now (depths .exit)) (now (methods .exit)) (now (marks .exit)) (c .classes)) (onCall c g (c .kinds) (now (bits .entry)) (now (args .entry)) (now (locs .entry)) (now (ats .entry)) (now (depths .entry)) (now (methods .entry)) (now (marks .entry)) (c .classes)) (startingC L (onCall c g (c .kinds) (now (bits .entry)) (now (args .entry)) (now (locs .entry)) (now (ats .entry)) (now (depths .entry)) (now (methods .entry)) (now (marks .entry)) (c .classes)) (getD (L .owners) row 0) (λ (m : List ℕ). enterC L (withMarks (handed (onCall c g (c .kinds) (now (bits .entry)) (now (args .entry)) (now (locs .entry)) (now (ats .entry)) (now (depths .entry)) (now (methods .entry)) (now (marks .entry)) (c .classes)) n d) m) row d))) ⌝ }
+    ensures { λ r. ⌜ Ok (r .regs) ⌝ ∗ ⌜ ((L : Loaded) (c : Cells) → L .owners ≡ now (owners .entry) → StartsOf L (now (locals .entry)) (now (initialisers .entry)) → Few 1 (now (marks .entry)) → Meets (r .ending) (onCall c (r .regs) (c .kinds) (now (bits .entry)) (now (args .exit)) (now (locs .exit)) (now (ats .exit)) (now (depths .exit)) (now (methods .exit)) (now (marks .exit)) (c .classes)) (onCall c g (c .kinds) (now (bits .entry)) (now (args .entry)) (now (locs .entry)) (now (ats .entry)) (now (depths .entry)) (now (methods .entry)) (now (marks .entry)) (c .classes)) (invoked L (onCall c g (c .kinds) (now (bits .entry)) (now (args .entry)) (now (locs .entry)) (now (ats .entry)) (now (depths .entry)) (now (methods .entry)) (now (marks .entry)) (c .classes)) row n d)) ⌝ }
 {
     let class = wide(owners[row]);
     let i = due(marks, initialisers, class);
@@ -87,18 +85,9 @@ pub fn call(
     }
     let row = token % 16777216;
     let n = wide(arguments[row]);
-    let e = untaken(
-        g,
-        kinds,
-        bits,
-        classes,
-        table,
-        types,
-        stacks,
-        n,
-        row * 24,
-        due_by(returns[row]),
-    );
+    let at = row * 24;
+    let more = due_by(returns[row]);
+    let e = untaken(g, kinds, bits, classes, table, types, stacks, n, at, more);
     if e != 0 {
         return ends(g, e);
     }
@@ -188,18 +177,9 @@ pub fn callvirt(
     }
     let row = token % 16777216;
     let n = wide(arguments[row]);
-    let e = untaken(
-        g,
-        kinds,
-        bits,
-        classes,
-        table,
-        types,
-        stacks,
-        n,
-        row * 24,
-        due_by(returns[row]),
-    );
+    let at = row * 24;
+    let more = due_by(returns[row]);
+    let e = untaken(g, kinds, bits, classes, table, types, stacks, n, at, more);
     if e != 0 {
         return ends(g, e);
     }

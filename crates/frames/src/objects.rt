@@ -88,18 +88,8 @@ pub fn newobj(
     }
     let row = token % 16777216;
     let n = wide(arguments[row]) - 1;
-    let e = untaken(
-        g,
-        kinds,
-        bits,
-        classes,
-        table,
-        types,
-        stacks,
-        n,
-        row * 24 + 1,
-        1,
-    );
+    let at = row * 24 + 1;
+    let e = untaken(g, kinds, bits, classes, table, types, stacks, n, at, 1);
     if e != 0 {
         return ends(g, e);
     }

@@ -12,7 +12,7 @@ ghost use Rattle.tables.specs.declared.Loaded.{Loaded};
 ghost use Rattle.cells.specs.declared.Cells.{Cells};
 ghost use Rattle.cells.specs.Cells.{dueC, returnC, retC};
 ghost use Rattle.plain.specs.Steps.{Ok, HoldsFits, Placed, onClasses};
-ghost use Rattle.frames.specs.Lent.{Returns, onReturn};
+ghost use Rattle.frames.specs.Lent.{Returns, backOf, onReturn};
 ghost use Rattle.frames.specs.Ranges.{Waits};
 
 // What refuses a return of a type's byte: 43 or 45, else 0; the stack has to hold what is due and nothing more.
@@ -53,6 +53,20 @@ fn passed(sort: u8) -> usize
     if sort == 4 { 0 } else { 5 }
 }
 
+// The caller runs on.
+fn back(top: usize, method: usize, at: usize, depth: usize, made: usize) -> Gone
+    ensures { λ r. ⌜ r ≡ backOf top method at depth made ⌝ }
+{
+    let g = Regs {
+        top: top,
+        method: method,
+        at: at,
+        depth: depth,
+        made: made,
+    };
+    Gone { ending: 0, regs: g }
+}
+
 // The value that is due is handed to the caller, or the run is over.
 pub fn ret(
     g: Regs,
@@ -84,29 +98,11 @@ pub fn ret(
     let d = depths[p];
     let method = methods[p];
     if byte == 0 {
-        return Gone {
-            ending: 0,
-            regs: Regs {
-                top: p,
-                method: method,
-                at: at,
-                depth: d,
-                made: g.made,
-            },
-        };
+        return back(p, method, at, d, g.made);
     }
     let from = top * 32;
     let to = p * 32 + d;
     kinds[to] = kinds[from];
     bits[to] = bits[from];
-    Gone {
-        ending: 0,
-        regs: Regs {
-            top: p,
-            method: method,
-            at: at,
-            depth: d + 1,
-            made: g.made,
-        },
-    }
+    back(p, method, at, d + 1, g.made)
 }

@@ -1,8 +1,8 @@
 use borrow.Author.Needs.{needs}
 use Prim.Native.Nat.{_+_, _-_, _≤_}
 use mathlib.Core.Path.{_≡_, sym, _∙_}
-use borrow.Author.Tests.{not-true, not-false}
 use native.Mathlib.Omega.{arith}
+use borrow.Author.Tests.{not-true, not-false}
 use Rattle.tables.specs.declared.Loaded.{Loaded}
 use Rattle.cells.specs.declared.Cells.{Cells}
 use Rattle.cells.specs.Cells.{fitAllC}

@@ -1,10 +1,10 @@
 use borrow.Author.Needs.{needs}
 use mathlib.Core.Path.{sym, _∙_}
-use borrow.Author.Tests.{not-true, not-false}
 use native.Mathlib.Omega.{arith}
+use borrow.Author.Tests.{not-true, not-false}
 use Rattle.model.specs.Answer.{_>>=_, guard, pick}
-use Rattle.frames.proofs.Taken.{taking-few, taking-unfit, taking-room}
 use Rattle.plain.proofs.Answers.{within, beyond}
+use Rattle.frames.proofs.Taken.{taking-few, taking-unfit, taking-room}
 use Rattle.frames.proofs.arguments.untaken.Statement.{statement}
 use Rattle.frames.proofs.arguments.untaken.Tie as tie
 

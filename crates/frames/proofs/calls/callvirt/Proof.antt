@@ -1,11 +1,18 @@
 use borrow.Author.Needs.{needs}
-use Prim.Native.Nat.{_%_}
-use mathlib.Core.Path.{refl, _∙_}
-use borrow.Author.Tests.{not-true, not-false}
+use Prim.Native.Nat.{_-_, _%_}
+use mathlib.Core.Path.{_≡_, refl, _∙_}
+use mathlib.Core.Bool.{not}
 use native.Mathlib.Omega.{arith}
+use lib.Dec.{eqb}
+use borrow.Author.Tests.{not-true, not-false}
+use Rattle.model.specs.Answer.{bad, _>>=_, guard, pick}
+use Rattle.tables.specs.declared.Loaded.{Loaded}
 use Rattle.cells.specs.declared.Cells.{Cells}
+use Rattle.cells.specs.declared.Derived.{Derived}
+use Rattle.cells.specs.Cells.{bitsAt, classOf, rowOfToken, callvirtC, chosenC}
+use Rattle.plain.specs.Steps.{HoldsFits}
 use Rattle.plain.proofs.Answers.{stops, instead, refused}
-use Rattle.frames.specs.Lent.{onCall}
+use Rattle.frames.specs.Lent.{onCall, invoked, CallsOf}
 use Rattle.frames.proofs.Rows.{same-at}
 use Rattle.frames.proofs.Begun.{through}
 use Rattle.frames.proofs.Called.{callvirt-none, callvirt-takes, no-object, an-object, taken-same}
@@ -15,6 +22,14 @@ use Rattle.frames.proofs.calls.callvirt.Tie as tie
 -- the cells at entry
 abbrev base : Cells → tie.Start → Cells
 base s c = onCall s (c .args .g) (c .args .kinds .now) (c .args .bits .now) (c .args .args .now) (c .args .locs .now) (c .args .ats .now) (c .args .depths .now) (c .args .methods .now) (c .args .marks .now) (c .args .classes .now)
+
+abbrev first : tie.After-untaken → tie.Start
+first c = c .before .before .before .before .before .before .before
+
+-- what is said, by what refuses the arguments
+said : (c : tie.After-untaken) (L : Loaded) (s : Cells) (D : Derived) → CallsOf L (first c .args .count) (first c .args .sorts .now) (first c .args .owners .now) (first c .args .stacks .now) (first c .args .arguments .now) (first c .args .types .now) → L .returns ≡ first c .args .returns .now → HoldsFits (L .parents) (first c .args .table .now)
+    → callvirtC L D (base s (first c)) (first c .args .token) ≡ pick (eqb (c .untaken .result) 0) (guard (not (eqb (bitsAt (base s (first c)) (first c .args .g .depth - c .before .before .before .wide .result)) 0)) 34 >>= λ _. invoked L (base s (first c)) (chosenC L D (rowOfToken (first c .args .token)) (classOf (first c .args .classes .now) (bitsAt (base s (first c)) (first c .args .g .depth - c .before .before .before .wide .result)))) (c .before .before .before .wide .result) (first c .args .g .depth - c .before .before .before .wide .result)) (bad (c .untaken .result))
+said c L s D q v h = callvirt-takes L D _ _ (q .same-count) (q .same-sorts) (c .before .before .before .before .before .before .is-instance .ensures .0) (not-false _ (c .before .before .before .before .before .if1 .left)) (same-at _ (q .same-arguments) (c .before .before .before .wide .ensures .0)) (rw v (c .before .due-by .ensures .0)) ∙ c .untaken .ensures .1 L (base s (first c)) _ (q .same-types) (q .same-stacks) h (c .before .before .before .before .before .before .before .pre .1 .1 .1 .1)
 
 is-instance-requires : tie.Need-is-instance-requires
 is-instance-requires c κs = c .pre .1 .0 .rows
@@ -33,8 +48,8 @@ element-copy-out-wide c =
 wide-requires : tie.Need-wide-requires
 wide-requires c κs = search needs
 
-mul-untaken : tie.Need-mul-untaken
-mul-untaken c =
+mul-at : tie.Need-mul-at
+mul-at c =
     omega (arith, c .before .before .before .is-instance .ensures .1 (not-false _ (c .before .before .if1 .left)) .0, c .before .before .before .before .pre .1 .0 .rows)
 
 element-copy-out-due-by : tie.Need-element-copy-out-due-by
@@ -53,7 +68,7 @@ ends-requires-2 c κs = search needs
 
 returns-2 : tie.Need-returns-2
 returns-2 c =
-    rw (c .ends2 .ensures) (c .before .before .before .before .before .before .before .before .before .pre .0, λ L s D q e v o x f h. refused _ (callvirt-takes L D _ _ (q .same-count) (q .same-sorts) (c .before .before .before .before .before .before .before .before .is-instance .ensures .0) (not-false _ (c .before .before .before .before .before .before .before .if1 .left)) (same-at _ (q .same-arguments) (c .before .before .before .before .before .wide .ensures .0)) (rw v (c .before .before .before .due-by .ensures .0)) ∙ c .before .before .untaken .ensures .1 L (base s (c .before .before .before .before .before .before .before .before .before)) _ (q .same-types) (q .same-stacks) h (c .before .before .before .before .before .before .before .before .before .pre .1 .1 .1 .1)) (c .before .if2 .taken))
+    rw (c .ends2 .ensures) (c .before .before .before .before .before .before .before .before .before .pre .0, λ L s D q e v o x f h. refused _ (said (c .before .before) L s D q v h) (c .before .if2 .taken))
 
 sub-d : tie.Need-sub-d
 sub-d c = c .before .before .untaken .ensures .0 (c .before .if2 .left) .0
@@ -78,19 +93,22 @@ ends-requires-3 c κs = search needs
 
 returns-3 : tie.Need-returns-3
 returns-3 c =
-    rw (c .ends3 .ensures) (c .before .before .before .before .before .before .before .before .before .before .before .before .before .pre .0, λ L s D q e v o x f h. stops refl (through _ _ (callvirt-takes L D _ _ (q .same-count) (q .same-sorts) (c .before .before .before .before .before .before .before .before .before .before .before .before .is-instance .ensures .0) (not-false _ (c .before .before .before .before .before .before .before .before .before .before .before .if1 .left)) (same-at _ (q .same-arguments) (c .before .before .before .before .before .before .before .before .before .wide .ensures .0)) (rw v (c .before .before .before .before .before .before .before .due-by .ensures .0)) ∙ c .before .before .before .before .before .before .untaken .ensures .1 L (base s (c .before .before .before .before .before .before .before .before .before .before .before .before .before)) _ (q .same-types) (q .same-stacks) h (c .before .before .before .before .before .before .before .before .before .before .before .before .before .pre .1 .1 .1 .1)) (c .before .before .before .before .before .if2 .left) ∙ no-object _ _ (c .before .if3 .taken)))
+    rw (c .ends3 .ensures) (c .before .before .before .before .before .before .before .before .before .before .before .before .before .pre .0, λ L s D q e v o x f h. stops refl (through _ _ (said (c .before .before .before .before .before .before) L s D q v h) (c .before .before .before .before .before .if2 .left) ∙ no-object _ _ (c .before .if3 .taken)))
 
 chosen-row-requires : tie.Need-chosen-row-requires
 chosen-row-requires c κs =
-    ((omega (arith, c .before .before .before .before .before .before .before .before .before .before .before .is-instance .ensures .1 (not-false _ (c .before .before .before .before .before .before .before .before .before .before .if1 .left)) .0, c .before .before .before .before .before .before .before .before .before .before .before .before .pre .1 .0 .rows), omega arith), (c .before .before .before .before .before .before .before .before .before .before .before .before .pre .1 .1 .1 .1, c .before .before .before .before .before .before .before .before .before .before .before .before .pre .1 .1 .1 .0))
+    let d : tie.After-untaken = c .before .before .before .before .before in
+    ((omega (arith, d .before .before .before .before .before .before .is-instance .ensures .1 (not-false _ (d .before .before .before .before .before .if1 .left)) .0, first d .pre .1 .0 .rows), omega arith), (first d .pre .1 .1 .1 .1, first d .pre .1 .1 .1 .0))
 
 invoke-requires : tie.Need-invoke-requires
 invoke-requires c κs =
-    (c .before .before .before .before .before .before .before .before .before .before .before .before .before .before .before .before .before .before .before .pre .0, ((c .before .before .before .before .before .before .chosen-row .ensures .0, omega (arith, c .before .before .before .before .before .before .before .before .before .before .before .before .before .before .before .before .before .before .before .pre .1 .0 .few-arguments .most (c .before .before .before .before .before .before .before .before .before .before .before .before .before .before .before .before .before .before .before .args .token % 16777216), c .before .before .before .before .before .before .before .before .before .before .before .before .before .before .before .wide .ensures .0), omega (arith, c .before .before .before .before .before .before .before .before .before .before .before .before .untaken .ensures .0 (c .before .before .before .before .before .before .before .before .before .before .before .if2 .left) .0, c .before .before .before .before .before .before .before .before .before .before .before .before .before .before .before .before .before .before .before .pre .0 .deep)), (c .before .before .before .before .before .before .before .before .before .before .before .before .before .before .before .before .before .before .before .pre .1 .0 .few-owners, c .before .before .before .before .before .before .before .before .before .before .before .before .before .before .before .before .before .before .before .pre .1 .1 .0)))
+    let d : tie.After-untaken = c .before .before .before .before .before .before .before .before .before .before .before .before in
+    (first d .pre .0, ((c .before .before .before .before .before .before .chosen-row .ensures .0, omega (arith, first d .pre .1 .0 .few-arguments .most (first d .args .token % 16777216), d .before .before .before .wide .ensures .0), omega (arith, d .untaken .ensures .0 (c .before .before .before .before .before .before .before .before .before .before .before .if2 .left) .0, first d .pre .0 .deep)), (first d .pre .1 .0 .few-owners, first d .pre .1 .1 .0)))
 
 returns-4 : tie.Need-returns-4
 returns-4 c =
-    (c .invoke .ensures .0, λ L s D q e v o x f h. instead (through _ _ (callvirt-takes L D _ _ (q .same-count) (q .same-sorts) (c .before .before .before .before .before .before .before .before .before .before .before .before .before .before .before .before .before .before .before .is-instance .ensures .0) (not-false _ (c .before .before .before .before .before .before .before .before .before .before .before .before .before .before .before .before .before .before .if1 .left)) (same-at _ (q .same-arguments) (c .before .before .before .before .before .before .before .before .before .before .before .before .before .before .before .before .wide .ensures .0)) (rw v (c .before .before .before .before .before .before .before .before .before .before .before .before .before .before .due-by .ensures .0)) ∙ c .before .before .before .before .before .before .before .before .before .before .before .before .before .untaken .ensures .1 L (base s (c .before .before .before .before .before .before .before .before .before .before .before .before .before .before .before .before .before .before .before .before)) _ (q .same-types) (q .same-stacks) h (c .before .before .before .before .before .before .before .before .before .before .before .before .before .before .before .before .before .before .before .before .pre .1 .1 .1 .1)) (c .before .before .before .before .before .before .before .before .before .before .before .before .if2 .left) ∙ an-object _ _ (c .before .before .before .before .before .before .before .before .if3 .left) ∙ taken-same L _ _ _ (c .before .before .before .before .before .before .before .chosen-row .ensures .1 L D (q .same-sorts) o x)) (c .invoke .ensures .1 L (base s (c .before .before .before .before .before .before .before .before .before .before .before .before .before .before .before .before .before .before .before .before)) (q .same-owners) e f))
+    let d : tie.After-untaken = c .before .before .before .before .before .before .before .before .before .before .before .before .before in
+    (c .invoke .ensures .0, λ L s D q e v o x f h. instead (through _ _ (said d L s D q v h) (c .before .before .before .before .before .before .before .before .before .before .before .before .if2 .left) ∙ an-object _ _ (c .before .before .before .before .before .before .before .before .if3 .left) ∙ taken-same L _ _ _ (c .before .before .before .before .before .before .before .chosen-row .ensures .1 L D (q .same-sorts) o x)) (c .invoke .ensures .1 L (base s (first d)) (q .same-owners) e f))
 
 pub callvirt-spec : {M : Type 1} → statement M
 callvirt-spec =
@@ -101,7 +119,7 @@ callvirt-spec =
     returns
     element-copy-out-wide
     wide-requires
-    mul-untaken
+    mul-at
     element-copy-out-due-by
     due-by-requires
     untaken-requires

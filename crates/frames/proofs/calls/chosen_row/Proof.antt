@@ -1,6 +1,6 @@
 use borrow.Author.Needs.{needs}
-use native.Mathlib.Omega.{arith}
 use Prim.Native.Nat.{_+_, _*_}
+use native.Mathlib.Omega.{arith}
 use Rattle.frames.proofs.Called.{chosen-named, chosen-none, chosen-some}
 use Rattle.frames.proofs.calls.chosen_row.Statement.{statement}
 use Rattle.frames.proofs.calls.chosen_row.Tie as tie

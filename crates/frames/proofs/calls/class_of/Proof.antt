@@ -1,8 +1,8 @@
 use borrow.Author.Needs.{needs}
+use Prim.Native.Nat.{_-_}
 use mathlib.Core.Path.{sym}
 use native.Mathlib.Omega.{arith}
 use lib.ListN.{List·getD-eq-default}
-use Prim.Native.Nat.{_-_}
 use Rattle.frames.proofs.calls.class_of.Statement.{statement}
 use Rattle.frames.proofs.calls.class_of.Tie as tie
 

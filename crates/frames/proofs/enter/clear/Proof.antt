@@ -1,6 +1,6 @@
 use Prim.Native.Nat.{_+_, _-_, _≤_}
-use mathlib.Core.List.{[]}
 use mathlib.Core.Path.{_≡_, sym, _∙_}
+use mathlib.Core.List.{[]}
 use native.Mathlib.Omega.{arith}
 use Rattle.cells.specs.Cells.{copyOf}
 use Rattle.frames.proofs.Taken.{copy-first, copy-more, copy-done}

@@ -1,23 +1,40 @@
 use borrow.Author.Needs.{needs}
 use Prim.Native.Nat.{ℕ, _-_, _%_}
-use mathlib.Core.Path.{refl, sym, ap, _∙_}
-use borrow.Author.Tests.{not-true, not-false}
+use mathlib.Core.Path.{_≡_, refl, sym, ap, _∙_}
+use mathlib.Core.List.{List}
 use native.Mathlib.Omega.{arith}
-use Rattle.model.specs.Answer.{_>>=_, guard}
+use lib.Dec.{eqb}
 use lib.ListN.{getD, set}
+use borrow.Author.Tests.{not-true, not-false}
+use Rattle.model.specs.Answer.{_>>=_, guard, pick}
+use Rattle.tables.specs.declared.Loaded.{Loaded}
 use Rattle.cells.specs.declared.Cells.{Cells}
-use Rattle.cells.specs.Cells.{put, goto}
-use Rattle.frames.specs.Lent.{onField}
+use Rattle.cells.specs.Cells.{withMarks, enterC, rowOfToken, ldfldC, bitsAt, put, goto}
+use Rattle.plain.specs.Steps.{Few, HoldsFits, Placed}
+use Rattle.plain.proofs.Answers.{stops, goes, instead, popping-none, popping-tests}
+use Rattle.frames.specs.Lent.{StartsOf, FieldsOf, onField}
 use Rattle.frames.proofs.Begun.{through, aside, starts-at}
 use Rattle.frames.proofs.Called.{no-object, an-object}
-use Rattle.plain.proofs.Answers.{stops, goes, instead, popping-none, popping-tests}
-use Rattle.frames.proofs.Reached.{object-low, ldfld-none, ldfld-pops, put-same}
+use Rattle.frames.proofs.Reached.{loaded, object-low, ldfld-none, ldfld-pops, put-same}
 use Rattle.frames.proofs.fields.ldfld.Statement.{statement}
 use Rattle.frames.proofs.fields.ldfld.Tie as tie
 
 -- the cells at entry
 abbrev base : Cells → tie.Start → Cells
 base s c = onField s (c .args .g) (c .args .kinds .now) (c .args .bits .now) (c .args .locs .now) (c .args .ats .now) (c .args .depths .now) (c .args .methods .now) (c .args .marks .now) (c .args .classes .now) (c .args .heap .now)
+
+abbrev first : tie.After-due → tie.Start
+first c = c .before .before .before .before .before .before .before .before .before .before .before .before .before
+
+abbrev marked : tie.After-due → List ℕ
+marked c = set (first c .args .marks .now) (c .before .before .wide .result) 1
+
+-- what is said, by the initialiser that is due
+said : (c : tie.After-due) (L : Loaded) (s : Cells) → FieldsOf L (first c .args .count) (first c .args .owners .now) (first c .args .flags .now) (first c .args .types .now) (first c .args .slots .now) → StartsOf L (first c .args .locals .now) (first c .args .initialisers .now) → Few 1 (first c .args .marks .now) → HoldsFits (L .parents) (first c .args .table .now) → Placed (first c .args .classes .now)
+    → ldfldC L (base s (first c)) (first c .args .token) (first c .args .next) ≡ pick (eqb (c .due .result) 0) (loaded (base s (first c)) (first c .args .next) (getD (first c .args .types .now) (rowOfToken (first c .args .token)) 0) (getD (first c .args .slots .now) (rowOfToken (first c .args .token)) 0) (bitsAt (base s (first c)) (first c .args .g .depth - 1)) (marked c)) (enterC L (withMarks (base s (first c)) (marked c)) (c .due .result) (first c .args .g .depth))
+unfolding guard _>>=_
+said c L s q e f h p =
+    ldfld-pops L _ _ _ q (c .before .before .before .before .before .before .before .before .before .before .before .before .is-tagged .ensures .0) (not-false _ (c .before .before .before .before .before .before .before .before .before .before .before .if1 .left)) ∙ popping-tests L _ _ _ (c .before .before .before .before .before .before .before .before .before .if2 .left) (sym (c .before .before .before .before .fits-at .ensures L (base s (first c)) h p) ∙ not-false _ (c .before .before .before .if3 .left)) ∙ starts-at L _ _ (c .before .before .wide .ensures .0) (c .due .ensures .1 L (base s (first c)) _ (e .same-initialisers) f)
 
 is-tagged-requires : tie.Need-is-tagged-requires
 is-tagged-requires c κs = c .pre .1 .0 .rows
@@ -65,12 +82,13 @@ due-requires c κs =
 
 initialise-requires : tie.Need-initialise-requires
 initialise-requires c κs =
-    (c .before .before .before .before .before .before .before .before .before .before .before .before .before .before .before .before .before .before .before .pre .0, ((omega (arith, c .before .before .before .before .before .before .before .before .before .before .before .before .before .before .before .before .before .before .before .pre .1 .0 .few-owners .most (c .before .before .before .before .before .before .before .before .before .before .before .before .before .before .before .before .before .before .before .args .token % 16777216), c .before .before .before .before .before .before .before .before .wide .ensures .0), c .before .before .before .before .before .before .due .ensures .0), c .before .before .before .before .before .before .before .before .before .before .before .before .before .before .before .before .before .before .before .pre .1 .1 .few-locals))
+    let d : tie.After-due = c .before .before .before .before .before .before in
+    (first d .pre .0, ((omega (arith, first d .pre .1 .0 .few-owners .most (first d .args .token % 16777216), d .before .before .wide .ensures .0), d .due .ensures .0), first d .pre .1 .1 .few-locals))
 
 returns-4 : tie.Need-returns-4
 unfolding guard _>>=_
 returns-4 c =
-    (c .initialise .ensures .0, λ L s q e f h p. instead (aside _ _ (ldfld-pops L _ _ _ q (c .before .before .before .before .before .before .before .before .before .before .before .before .before .before .before .before .before .before .before .is-tagged .ensures .0) (not-false _ (c .before .before .before .before .before .before .before .before .before .before .before .before .before .before .before .before .before .before .if1 .left)) ∙ popping-tests L _ _ _ (c .before .before .before .before .before .before .before .before .before .before .before .before .before .before .before .before .if2 .left) (sym (c .before .before .before .before .before .before .before .before .before .before .before .fits-at .ensures L (base s (c .before .before .before .before .before .before .before .before .before .before .before .before .before .before .before .before .before .before .before .before)) h p) ∙ not-false _ (c .before .before .before .before .before .before .before .before .before .before .if3 .left)) ∙ starts-at L _ _ (c .before .before .before .before .before .before .before .before .before .wide .ensures .0) (c .before .before .before .before .before .before .before .due .ensures .1 L (base s (c .before .before .before .before .before .before .before .before .before .before .before .before .before .before .before .before .before .before .before .before)) _ (e .same-initialisers) f)) (c .before .before .before .before .before .before .if4 .taken)) (c .initialise .ensures .1 L (base s (c .before .before .before .before .before .before .before .before .before .before .before .before .before .before .before .before .before .before .before .before)) (e .same-locals)))
+    (c .initialise .ensures .0, λ L s q e f h p. instead (aside _ _ (said (c .before .before .before .before .before .before .before) L s q e f h p) (c .before .before .before .before .before .before .if4 .taken)) (c .initialise .ensures .1 L (base s (c .before .before .before .before .before .before .before .before .before .before .before .before .before .before .before .before .before .before .before .before)) (e .same-locals)))
 
 mul-at : tie.Need-mul-at
 mul-at c =
@@ -94,23 +112,27 @@ ends-requires-4 c κs = search needs
 returns-5 : tie.Need-returns-5
 unfolding guard _>>=_
 returns-5 c =
-    rw (c .ends4 .ensures) (c .before .before .before .before .before .before .before .before .before .before .before .before .before .before .before .before .before .before .pre .0, λ L s q e f h p. stops refl (through _ _ (ldfld-pops L _ _ _ q (c .before .before .before .before .before .before .before .before .before .before .before .before .before .before .before .before .before .is-tagged .ensures .0) (not-false _ (c .before .before .before .before .before .before .before .before .before .before .before .before .before .before .before .before .if1 .left)) ∙ popping-tests L _ _ _ (c .before .before .before .before .before .before .before .before .before .before .before .before .before .before .if2 .left) (sym (c .before .before .before .before .before .before .before .before .before .fits-at .ensures L (base s (c .before .before .before .before .before .before .before .before .before .before .before .before .before .before .before .before .before .before)) h p) ∙ not-false _ (c .before .before .before .before .before .before .before .before .if3 .left)) ∙ starts-at L _ _ (c .before .before .before .before .before .before .before .wide .ensures .0) (c .before .before .before .before .before .due .ensures .1 L (base s (c .before .before .before .before .before .before .before .before .before .before .before .before .before .before .before .before .before .before)) _ (e .same-initialisers) f)) (c .before .before .before .before .if4 .left) ∙ no-object _ _ (c .before .if5 .taken)))
+    rw (c .ends4 .ensures) (c .before .before .before .before .before .before .before .before .before .before .before .before .before .before .before .before .before .before .pre .0, λ L s q e f h p. stops refl (through _ _ (said (c .before .before .before .before .before) L s q e f h p) (c .before .before .before .before .if4 .left) ∙ no-object _ _ (c .before .if5 .taken)))
 
 element-copy-out-cell-of : tie.Need-element-copy-out-cell-of
 element-copy-out-cell-of c =
-    omega (arith, c .before .before .before .before .before .before .before .before .before .before .before .before .before .before .before .before .is-tagged .ensures .1 (not-false _ (c .before .before .before .before .before .before .before .before .before .before .before .before .before .before .before .if1 .left)) .0, c .before .before .before .before .before .before .before .before .before .before .before .before .before .before .before .before .before .pre .1 .0 .rows)
+    let d : tie.After-due = c .before .before .before .before in
+    omega (arith, d .before .before .before .before .before .before .before .before .before .before .before .before .is-tagged .ensures .1 (not-false _ (d .before .before .before .before .before .before .before .before .before .before .before .if1 .left)) .0, first d .pre .1 .0 .rows)
 
 cell-of-requires : tie.Need-cell-of-requires
 cell-of-requires c κs =
-    (omega arith, c .before .before .before .before .before .before .before .before .before .before .before .before .before .before .before .before .before .before .pre .1 .0 .near (c .before .before .before .before .before .before .before .before .before .before .before .before .before .before .before .before .before .before .args .token % 16777216) (c .before .before .before .before .before .before .before .before .before .before .before .before .before .before .before .before .before .is-tagged .ensures .1 (not-false _ (c .before .before .before .before .before .before .before .before .before .before .before .before .before .before .before .before .if1 .left)) .1))
+    let d : tie.After-due = c .before .before .before .before .before in
+    (omega arith, first d .pre .1 .0 .near (first d .args .token % 16777216) (d .before .before .before .before .before .before .before .before .before .before .before .before .is-tagged .ensures .1 (not-false _ (d .before .before .before .before .before .before .before .before .before .before .before .if1 .left)) .1))
 
 element-write-marks : tie.Need-element-write-marks
 element-write-marks c =
-    omega (arith, c .before .before .before .before .before .before .before .before .before .before .before .before .before .before .before .before .before .before .before .pre .1 .0 .few-owners .most (c .before .before .before .before .before .before .before .before .before .before .before .before .before .before .before .before .before .before .before .args .token % 16777216), c .before .before .before .before .before .before .before .before .wide .ensures .0)
+    let d : tie.After-due = c .before .before .before .before .before .before in
+    omega (arith, first d .pre .1 .0 .few-owners .most (first d .args .token % 16777216), d .before .before .wide .ensures .0)
 
 element-copy-out-kind-of : tie.Need-element-copy-out-kind-of
 element-copy-out-kind-of c =
-    omega (arith, c .before .before .before .before .before .before .before .before .before .before .before .before .before .before .before .before .before .before .is-tagged .ensures .1 (not-false _ (c .before .before .before .before .before .before .before .before .before .before .before .before .before .before .before .before .before .if1 .left)) .0, c .before .before .before .before .before .before .before .before .before .before .before .before .before .before .before .before .before .before .before .pre .1 .0 .rows)
+    let d : tie.After-due = c .before .before .before .before .before .before in
+    omega (arith, d .before .before .before .before .before .before .before .before .before .before .before .before .is-tagged .ensures .1 (not-false _ (d .before .before .before .before .before .before .before .before .before .before .before .if1 .left)) .0, first d .pre .1 .0 .rows)
 
 kind-of-requires : tie.Need-kind-of-requires
 kind-of-requires c κs = search needs
@@ -143,7 +165,8 @@ moved-requires c κs = search needs
 returns-6 : tie.Need-returns-6
 unfolding guard _>>=_ put goto
 returns-6 c =
-    rw (c .moved .ensures) (omega (arith, c .before .before .before .before .before .before .before .before .before .before .before .before .before .before .before .before .before .before .before .before .before .before .before .pre .0), λ L s q e f h p. goes (through _ _ (ldfld-pops L _ _ _ q (c .before .before .before .before .before .before .before .before .before .before .before .before .before .before .before .before .before .before .before .before .before .before .is-tagged .ensures .0) (not-false _ (c .before .before .before .before .before .before .before .before .before .before .before .before .before .before .before .before .before .before .before .before .before .if1 .left)) ∙ popping-tests L _ _ _ (c .before .before .before .before .before .before .before .before .before .before .before .before .before .before .before .before .before .before .before .if2 .left) (sym (c .before .before .before .before .before .before .before .before .before .before .before .before .before .before .fits-at .ensures L (base s (c .before .before .before .before .before .before .before .before .before .before .before .before .before .before .before .before .before .before .before .before .before .before .before)) h p) ∙ not-false _ (c .before .before .before .before .before .before .before .before .before .before .before .before .before .if3 .left)) ∙ starts-at L _ _ (c .before .before .before .before .before .before .before .before .before .before .before .before .wide .ensures .0) (c .before .before .before .before .before .before .before .before .before .before .due .ensures .1 L (base s (c .before .before .before .before .before .before .before .before .before .before .before .before .before .before .before .before .before .before .before .before .before .before .before)) _ (e .same-initialisers) f)) (c .before .before .before .before .before .before .before .before .before .if4 .left) ∙ an-object _ _ (c .before .before .before .before .before .before .if5 .left) ∙ put-same (base s (c .before .before .before .before .before .before .before .before .before .before .before .before .before .before .before .before .before .before .before .before .before .before .before)) (c .before .before .before .before .before .before .before .before .before .before .before .before .before .before .before .before .before .before .before .before .before .before .before .args .next) (c .before .before .before .before .before .before .before .before .before .before .before .before .before .before .before .before .before .before .before .before .before .before .before .args .g .depth - 1) (set (c .before .before .before .before .before .before .before .before .before .before .before .before .before .before .before .before .before .before .before .before .before .before .before .args .marks .now) (c .before .before .before .before .before .before .before .before .before .before .before .before .wide .result) 1) (c .before .before .kind-of .ensures) (ap (λ (x : ℕ). getD (c .before .before .before .before .before .before .before .before .before .before .before .before .before .before .before .before .before .before .before .before .before .before .before .args .heap .now) x 0) (c .before .before .before .before .cell-of .ensures .1 (object-low L (base s (c .before .before .before .before .before .before .before .before .before .before .before .before .before .before .before .before .before .before .before .before .before .before .before)) _ _ _ h p (sym (c .before .before .before .before .before .before .before .before .before .before .before .before .before .before .fits-at .ensures L (base s (c .before .before .before .before .before .before .before .before .before .before .before .before .before .before .before .before .before .before .before .before .before .before .before)) h p) ∙ not-false _ (c .before .before .before .before .before .before .before .before .before .before .before .before .before .if3 .left)))))))
+    let d : tie.After-due = c .before .before .before .before .before .before .before .before .before .before in
+    rw (c .moved .ensures) (omega (arith, first d .pre .0), λ L s q e f h p. goes (through _ _ (said d L s q e f h p) (c .before .before .before .before .before .before .before .before .before .if4 .left) ∙ an-object _ _ (c .before .before .before .before .before .before .if5 .left) ∙ put-same (base s (first d)) (first d .args .next) (first d .args .g .depth - 1) (marked d) (c .before .before .kind-of .ensures) (ap (λ (x : ℕ). getD (first d .args .heap .now) x 0) (c .before .before .before .before .cell-of .ensures .1 (object-low L (base s (first d)) _ _ _ h p (sym (d .before .before .before .before .fits-at .ensures L (base s (first d)) h p) ∙ not-false _ (d .before .before .before .if3 .left)))))))
 
 pub ldfld-spec : {M : Type 1} → statement M
 ldfld-spec =

@@ -1,22 +1,39 @@
 use borrow.Author.Needs.{needs}
-use Prim.Native.Nat.{_-_, _%_}
-use mathlib.Core.Path.{refl, sym, _∙_}
-use borrow.Author.Tests.{not-true, not-false}
+use Prim.Native.Nat.{ℕ, _-_, _%_}
+use mathlib.Core.Path.{_≡_, refl, sym, _∙_}
+use mathlib.Core.List.{List}
 use native.Mathlib.Omega.{arith}
-use lib.ListN.{set}
+use lib.Dec.{eqb}
+use lib.ListN.{getD, set}
+use borrow.Author.Tests.{not-true, not-false}
+use Rattle.model.specs.Answer.{pick}
+use Rattle.tables.specs.declared.Loaded.{Loaded}
 use Rattle.cells.specs.declared.Cells.{Cells}
-use Rattle.cells.specs.Cells.{bitsAt, goto}
-use Rattle.frames.specs.Lent.{onField}
+use Rattle.cells.specs.Cells.{withMarks, enterC, rowOfToken, stfldC, bitsAt, goto}
+use Rattle.plain.specs.Steps.{Few, HoldsFits, Placed}
+use Rattle.plain.proofs.Answers.{stops, goes, instead}
+use Rattle.frames.specs.Lent.{StartsOf, FieldsOf, onField}
 use Rattle.frames.proofs.Begun.{through, aside, starts-at}
 use Rattle.frames.proofs.Called.{no-object, an-object}
-use Rattle.plain.proofs.Answers.{stops, goes, instead}
-use Rattle.frames.proofs.Reached.{object-low, stfld-none, stfld-few, stfld-under, stfld-unfit, stfld-starts, field-same}
+use Rattle.frames.proofs.Reached.{stored, object-low, stfld-none, stfld-few, stfld-under, stfld-unfit, stfld-starts, field-same}
 use Rattle.frames.proofs.fields.stfld.Statement.{statement}
 use Rattle.frames.proofs.fields.stfld.Tie as tie
 
 -- the cells at entry
 abbrev base : Cells → tie.Start → Cells
 base s c = onField s (c .args .g) (c .args .kinds .now) (c .args .bits .now) (c .args .locs .now) (c .args .ats .now) (c .args .depths .now) (c .args .methods .now) (c .args .marks .now) (c .args .classes .now) (c .args .heap .now)
+
+abbrev first : tie.After-due → tie.Start
+first c = c .before .before .before .before .before .before .before .before .before .before .before .before .before .before .before
+
+abbrev marked : tie.After-due → List ℕ
+marked c = set (first c .args .marks .now) (c .before .before .wide .result) 1
+
+-- what is said, by the initialiser that is due
+said : (c : tie.After-due) (L : Loaded) (s : Cells) → FieldsOf L (first c .args .count) (first c .args .owners .now) (first c .args .flags .now) (first c .args .types .now) (first c .args .slots .now) → StartsOf L (first c .args .locals .now) (first c .args .initialisers .now) → Few 1 (first c .args .marks .now) → HoldsFits (L .parents) (first c .args .table .now) → Placed (first c .args .classes .now)
+    → stfldC L (base s (first c)) (first c .args .token) (first c .args .next) ≡ pick (eqb (c .due .result) 0) (stored (base s (first c)) (first c .args .next) (getD (L .slots) (rowOfToken (first c .args .token)) 0) (marked c)) (enterC L (withMarks (base s (first c)) (marked c)) (c .due .result) (first c .args .g .depth))
+said c L s q e f h p =
+    stfld-starts L _ _ _ q (c .before .before .before .before .before .before .before .before .before .before .before .before .before .before .is-tagged .ensures .0) (not-false _ (c .before .before .before .before .before .before .before .before .before .before .before .before .before .if1 .left)) (c .before .before .before .before .before .before .before .before .before .before .before .if2 .left) (c .before .before .before .before .before .before .before .before .fits-at .ensures L (base s (first c)) h p) (not-false _ (c .before .before .before .before .before .before .before .if3 .left)) (c .before .before .before .before .fits-at2 .ensures L (base s (first c)) h p) (not-false _ (c .before .before .before .if4 .left)) ∙ starts-at L _ _ (c .before .before .wide .ensures .0) (c .due .ensures .1 L (base s (first c)) _ (e .same-initialisers) f)
 
 is-tagged-requires : tie.Need-is-tagged-requires
 is-tagged-requires c κs = c .pre .1 .0 .rows
@@ -81,11 +98,12 @@ due-requires c κs =
 
 initialise-requires : tie.Need-initialise-requires
 initialise-requires c κs =
-    (c .before .before .before .before .before .before .before .before .before .before .before .before .before .before .before .before .before .before .before .before .before .pre .0, ((omega (arith, c .before .before .before .before .before .before .before .before .before .before .before .before .before .before .before .before .before .before .before .before .before .pre .1 .0 .few-owners .most (c .before .before .before .before .before .before .before .before .before .before .before .before .before .before .before .before .before .before .before .before .before .args .token % 16777216), c .before .before .before .before .before .before .before .before .wide .ensures .0), c .before .before .before .before .before .before .due .ensures .0), c .before .before .before .before .before .before .before .before .before .before .before .before .before .before .before .before .before .before .before .before .before .pre .1 .1 .few-locals))
+    let d : tie.After-due = c .before .before .before .before .before .before in
+    (first d .pre .0, ((omega (arith, first d .pre .1 .0 .few-owners .most (first d .args .token % 16777216), d .before .before .wide .ensures .0), d .due .ensures .0), first d .pre .1 .1 .few-locals))
 
 returns-5 : tie.Need-returns-5
 returns-5 c =
-    (c .initialise .ensures .0, λ L s q e f h p. instead (aside _ _ (stfld-starts L _ _ _ q (c .before .before .before .before .before .before .before .before .before .before .before .before .before .before .before .before .before .before .before .before .before .is-tagged .ensures .0) (not-false _ (c .before .before .before .before .before .before .before .before .before .before .before .before .before .before .before .before .before .before .before .before .if1 .left)) (c .before .before .before .before .before .before .before .before .before .before .before .before .before .before .before .before .before .before .if2 .left) (c .before .before .before .before .before .before .before .before .before .before .before .before .before .before .before .fits-at .ensures L (base s (c .before .before .before .before .before .before .before .before .before .before .before .before .before .before .before .before .before .before .before .before .before .before)) h p) (not-false _ (c .before .before .before .before .before .before .before .before .before .before .before .before .before .before .if3 .left)) (c .before .before .before .before .before .before .before .before .before .before .before .fits-at2 .ensures L (base s (c .before .before .before .before .before .before .before .before .before .before .before .before .before .before .before .before .before .before .before .before .before .before)) h p) (not-false _ (c .before .before .before .before .before .before .before .before .before .before .if4 .left)) ∙ starts-at L _ _ (c .before .before .before .before .before .before .before .before .before .wide .ensures .0) (c .before .before .before .before .before .before .before .due .ensures .1 L (base s (c .before .before .before .before .before .before .before .before .before .before .before .before .before .before .before .before .before .before .before .before .before .before)) _ (e .same-initialisers) f)) (c .before .before .before .before .before .before .if5 .taken)) (c .initialise .ensures .1 L (base s (c .before .before .before .before .before .before .before .before .before .before .before .before .before .before .before .before .before .before .before .before .before .before)) (e .same-locals)))
+    (c .initialise .ensures .0, λ L s q e f h p. instead (aside _ _ (said (c .before .before .before .before .before .before .before) L s q e f h p) (c .before .before .before .before .before .before .if5 .taken)) (c .initialise .ensures .1 L (base s (c .before .before .before .before .before .before .before .before .before .before .before .before .before .before .before .before .before .before .before .before .before .before)) (e .same-locals)))
 
 mul-under : tie.Need-mul-under
 mul-under c =
@@ -108,19 +126,22 @@ ends-requires-5 c κs = search needs
 
 returns-6 : tie.Need-returns-6
 returns-6 c =
-    rw (c .ends5 .ensures) (c .before .before .before .before .before .before .before .before .before .before .before .before .before .before .before .before .before .before .before .before .pre .0, λ L s q e f h p. stops refl (through _ _ (stfld-starts L _ _ _ q (c .before .before .before .before .before .before .before .before .before .before .before .before .before .before .before .before .before .before .before .is-tagged .ensures .0) (not-false _ (c .before .before .before .before .before .before .before .before .before .before .before .before .before .before .before .before .before .before .if1 .left)) (c .before .before .before .before .before .before .before .before .before .before .before .before .before .before .before .before .if2 .left) (c .before .before .before .before .before .before .before .before .before .before .before .before .before .fits-at .ensures L (base s (c .before .before .before .before .before .before .before .before .before .before .before .before .before .before .before .before .before .before .before .before)) h p) (not-false _ (c .before .before .before .before .before .before .before .before .before .before .before .before .if3 .left)) (c .before .before .before .before .before .before .before .before .before .fits-at2 .ensures L (base s (c .before .before .before .before .before .before .before .before .before .before .before .before .before .before .before .before .before .before .before .before)) h p) (not-false _ (c .before .before .before .before .before .before .before .before .if4 .left)) ∙ starts-at L _ _ (c .before .before .before .before .before .before .before .wide .ensures .0) (c .before .before .before .before .before .due .ensures .1 L (base s (c .before .before .before .before .before .before .before .before .before .before .before .before .before .before .before .before .before .before .before .before)) _ (e .same-initialisers) f)) (c .before .before .before .before .if5 .left) ∙ no-object _ _ (c .before .if6 .taken)))
+    rw (c .ends5 .ensures) (c .before .before .before .before .before .before .before .before .before .before .before .before .before .before .before .before .before .before .before .before .pre .0, λ L s q e f h p. stops refl (through _ _ (said (c .before .before .before .before .before) L s q e f h p) (c .before .before .before .before .if5 .left) ∙ no-object _ _ (c .before .if6 .taken)))
 
 element-copy-out-cell-of : tie.Need-element-copy-out-cell-of
 element-copy-out-cell-of c =
-    omega (arith, c .before .before .before .before .before .before .before .before .before .before .before .before .before .before .before .before .before .before .is-tagged .ensures .1 (not-false _ (c .before .before .before .before .before .before .before .before .before .before .before .before .before .before .before .before .before .if1 .left)) .0, c .before .before .before .before .before .before .before .before .before .before .before .before .before .before .before .before .before .before .before .pre .1 .0 .rows)
+    let d : tie.After-due = c .before .before .before .before in
+    omega (arith, d .before .before .before .before .before .before .before .before .before .before .before .before .before .before .is-tagged .ensures .1 (not-false _ (d .before .before .before .before .before .before .before .before .before .before .before .before .before .if1 .left)) .0, first d .pre .1 .0 .rows)
 
 cell-of-requires : tie.Need-cell-of-requires
 cell-of-requires c κs =
-    (omega arith, c .before .before .before .before .before .before .before .before .before .before .before .before .before .before .before .before .before .before .before .before .pre .1 .0 .near (c .before .before .before .before .before .before .before .before .before .before .before .before .before .before .before .before .before .before .before .before .args .token % 16777216) (c .before .before .before .before .before .before .before .before .before .before .before .before .before .before .before .before .before .before .before .is-tagged .ensures .1 (not-false _ (c .before .before .before .before .before .before .before .before .before .before .before .before .before .before .before .before .before .before .if1 .left)) .1))
+    let d : tie.After-due = c .before .before .before .before .before in
+    (omega arith, first d .pre .1 .0 .near (first d .args .token % 16777216) (d .before .before .before .before .before .before .before .before .before .before .before .before .before .before .is-tagged .ensures .1 (not-false _ (d .before .before .before .before .before .before .before .before .before .before .before .before .before .if1 .left)) .1))
 
 element-write-marks : tie.Need-element-write-marks
 element-write-marks c =
-    omega (arith, c .before .before .before .before .before .before .before .before .before .before .before .before .before .before .before .before .before .before .before .before .before .pre .1 .0 .few-owners .most (c .before .before .before .before .before .before .before .before .before .before .before .before .before .before .before .before .before .before .before .before .before .args .token % 16777216), c .before .before .before .before .before .before .before .before .wide .ensures .0)
+    let d : tie.After-due = c .before .before .before .before .before .before in
+    omega (arith, first d .pre .1 .0 .few-owners .most (first d .args .token % 16777216), d .before .before .wide .ensures .0)
 
 mul-from : tie.Need-mul-from
 mul-from c =
@@ -154,7 +175,8 @@ moved-requires c κs = search needs
 returns-7 : tie.Need-returns-7
 unfolding goto
 returns-7 c =
-    rw (c .moved .ensures) (omega (arith, c .before .before .before .before .before .before .before .before .before .before .before .before .before .before .before .before .before .before .before .before .before .before .before .before .before .pre .0), λ L s q e f h p. goes (through _ _ (stfld-starts L _ _ _ q (c .before .before .before .before .before .before .before .before .before .before .before .before .before .before .before .before .before .before .before .before .before .before .before .before .is-tagged .ensures .0) (not-false _ (c .before .before .before .before .before .before .before .before .before .before .before .before .before .before .before .before .before .before .before .before .before .before .before .if1 .left)) (c .before .before .before .before .before .before .before .before .before .before .before .before .before .before .before .before .before .before .before .before .before .if2 .left) (c .before .before .before .before .before .before .before .before .before .before .before .before .before .before .before .before .before .before .fits-at .ensures L (base s (c .before .before .before .before .before .before .before .before .before .before .before .before .before .before .before .before .before .before .before .before .before .before .before .before .before)) h p) (not-false _ (c .before .before .before .before .before .before .before .before .before .before .before .before .before .before .before .before .before .if3 .left)) (c .before .before .before .before .before .before .before .before .before .before .before .before .before .before .fits-at2 .ensures L (base s (c .before .before .before .before .before .before .before .before .before .before .before .before .before .before .before .before .before .before .before .before .before .before .before .before .before)) h p) (not-false _ (c .before .before .before .before .before .before .before .before .before .before .before .before .before .if4 .left)) ∙ starts-at L _ _ (c .before .before .before .before .before .before .before .before .before .before .before .before .wide .ensures .0) (c .before .before .before .before .before .before .before .before .before .before .due .ensures .1 L (base s (c .before .before .before .before .before .before .before .before .before .before .before .before .before .before .before .before .before .before .before .before .before .before .before .before .before)) _ (e .same-initialisers) f)) (c .before .before .before .before .before .before .before .before .before .if5 .left) ∙ an-object _ _ (c .before .before .before .before .before .before .if6 .left) ∙ field-same (base s (c .before .before .before .before .before .before .before .before .before .before .before .before .before .before .before .before .before .before .before .before .before .before .before .before .before)) (c .before .before .before .before .before .before .before .before .before .before .before .before .before .before .before .before .before .before .before .before .before .before .before .before .before .args .next) (c .before .before .before .before .before .before .before .before .before .before .before .before .before .before .before .before .before .before .before .before .before .before .before .before .before .args .g .depth - 2) (set (c .before .before .before .before .before .before .before .before .before .before .before .before .before .before .before .before .before .before .before .before .before .before .before .before .before .args .marks .now) (c .before .before .before .before .before .before .before .before .before .before .before .before .wide .result) 1) (bitsAt (base s (c .before .before .before .before .before .before .before .before .before .before .before .before .before .before .before .before .before .before .before .before .before .before .before .before .before)) (c .before .before .before .before .before .before .before .before .before .before .before .before .before .before .before .before .before .before .before .before .before .before .before .before .before .args .g .depth - 1)) (rw (q .same-slots) (c .before .before .before .before .cell-of .ensures .1 (object-low L (base s (c .before .before .before .before .before .before .before .before .before .before .before .before .before .before .before .before .before .before .before .before .before .before .before .before .before)) _ _ _ h p (sym (c .before .before .before .before .before .before .before .before .before .before .before .before .before .before .before .before .before .before .fits-at .ensures L (base s (c .before .before .before .before .before .before .before .before .before .before .before .before .before .before .before .before .before .before .before .before .before .before .before .before .before)) h p) ∙ not-false _ (c .before .before .before .before .before .before .before .before .before .before .before .before .before .before .before .before .before .if3 .left)))))))
+    let d : tie.After-due = c .before .before .before .before .before .before .before .before .before .before in
+    rw (c .moved .ensures) (omega (arith, first d .pre .0), λ L s q e f h p. goes (through _ _ (said d L s q e f h p) (c .before .before .before .before .before .before .before .before .before .if5 .left) ∙ an-object _ _ (c .before .before .before .before .before .before .if6 .left) ∙ field-same (base s (first d)) (first d .args .next) (first d .args .g .depth - 2) (marked d) (bitsAt (base s (first d)) (first d .args .g .depth - 1)) (rw (q .same-slots) (c .before .before .before .before .cell-of .ensures .1 (object-low L (base s (first d)) _ _ _ h p (sym (d .before .before .before .before .before .before .before .before .fits-at .ensures L (base s (first d)) h p) ∙ not-false _ (d .before .before .before .before .before .before .before .if3 .left)))))))
 
 pub stfld-spec : {M : Type 1} → statement M
 stfld-spec =

@@ -1,8 +1,8 @@
 use borrow.Author.Needs.{needs}
-use lib.ListN.{getD}
 use Prim.Native.Nat.{_-_}
 use mathlib.Core.Path.{refl, _∙_}
 use native.Mathlib.Omega.{arith}
+use lib.ListN.{getD}
 use Rattle.cells.specs.declared.Cells.{Cells}
 use Rattle.frames.specs.Lent.{onReturn}
 use Rattle.frames.proofs.Rows.{same-at}
@@ -14,6 +14,9 @@ use Rattle.frames.proofs.returns.ret.Tie as tie
 -- the cells at entry
 abbrev base : Cells → tie.Start → Cells
 base s c = onReturn s (c .args .g) (c .args .kinds .now) (c .args .bits .now) (c .args .ats .now) (c .args .depths .now) (c .args .methods .now) (c .args .classes .now)
+
+abbrev first : tie.After-unreturned → tie.Start
+first c = c .before .before .before .before
 
 element-copy-out-byte : tie.Need-element-copy-out-byte
 element-copy-out-byte c = search needs
@@ -66,9 +69,13 @@ mul-method c = search needs
 element-copy-out-method : tie.Need-element-copy-out-method
 element-copy-out-method c = search needs
 
+back-requires : tie.Need-back-requires
+back-requires c κs = search needs
+
 returns-3 : tie.Need-returns-3
 returns-3 c =
-    (record { low = omega (arith, c .before .before .before .before .before .before .before .before .before .before .before .before .pre .0); deep = omega (arith, c .before .before .before .before .before .before .before .before .before .before .before .before .pre .1 .room (c .before .before .before .before .before .before .before .before .before .before .before .before .args .g .top - 1) (omega arith)); row = c .before .before .before .before .before .before .before .before .before .before .before .before .pre .1 .row (c .before .before .before .before .before .before .before .before .before .before .before .before .args .g .top - 1) (omega arith); few = c .before .before .before .before .before .before .before .before .before .before .before .before .pre .0 .few }, λ L s o v h p. back (through _ _ (c .before .before .before .before .before .before .before .before .unreturned .ensures .1 L (base s (c .before .before .before .before .before .before .before .before .before .before .before .before)) (same-at _ v refl) h p) (c .before .before .before .before .before .before .before .if1 .left) ∙ return-back _ _ _ _ (c .before .before .before .before .before .before .if2 .left) ∙ back-none _ _ (getD (L .sorts) (c .before .before .before .before .before .before .before .before .before .before .before .before .args .g .method) 0) (rw o (c .before .before .before .passed .ensures .0)) (due-none (c .if3 .taken))))
+    let d : tie.After-unreturned = c .before .before .before .before .before .before .before .before .before in
+    rw (c .back .ensures) (record { low = omega (arith, first d .pre .0); deep = omega (arith, first d .pre .1 .room (first d .args .g .top - 1) (omega arith)); row = first d .pre .1 .row (first d .args .g .top - 1) (omega arith); few = first d .pre .0 .few }, λ L s o v h p. back (through _ _ (d .unreturned .ensures .1 L (base s (first d)) (same-at _ v refl) h p) (c .before .before .before .before .before .before .before .before .if1 .left) ∙ return-back _ _ _ _ (c .before .before .before .before .before .before .before .if2 .left) ∙ back-none _ _ (getD (L .sorts) (first d .args .g .method) 0) (rw o (c .before .before .before .before .passed .ensures .0)) (due-none (c .before .if3 .taken))))
 
 mul-from : tie.Need-mul-from
 mul-from c = search needs
@@ -101,13 +108,17 @@ element-write-bits : tie.Need-element-write-bits
 element-write-bits c =
     omega (arith, c .before .before .before .before .before .before .before .before .before .before .before .before .before .before .pre .1 .room (c .before .before .before .before .before .before .before .before .before .before .before .before .before .before .args .g .top - 1) (omega arith), c .before .before .before .before .before .before .before .before .before .before .before .before .before .before .pre .0)
 
-add-t31 : tie.Need-add-t31
-add-t31 c =
+add-back : tie.Need-add-back
+add-back c =
     omega (arith, c .before .before .before .before .before .before .before .before .before .before .before .before .before .before .pre .1 .room (c .before .before .before .before .before .before .before .before .before .before .before .before .before .before .args .g .top - 1) (omega arith))
+
+back-requires-2 : tie.Need-back-requires-2
+back-requires-2 c κs = search needs
 
 returns-4 : tie.Need-returns-4
 returns-4 c =
-    (record { low = omega (arith, c .before .before .before .before .before .before .before .before .before .before .before .before .before .before .pre .0); deep = omega (arith, c .before .before .before .before .before .before .before .before .before .before .before .before .before .before .pre .1 .room (c .before .before .before .before .before .before .before .before .before .before .before .before .before .before .args .g .top - 1) (omega arith), due-one (c .before .before .if3 .left)); row = c .before .before .before .before .before .before .before .before .before .before .before .before .before .before .pre .1 .row (c .before .before .before .before .before .before .before .before .before .before .before .before .before .before .args .g .top - 1) (omega arith); few = c .before .before .before .before .before .before .before .before .before .before .before .before .before .before .pre .0 .few }, λ L s o v h p. back (through _ _ (c .before .before .before .before .before .before .before .before .before .before .unreturned .ensures .1 L (base s (c .before .before .before .before .before .before .before .before .before .before .before .before .before .before)) (same-at _ v refl) h p) (c .before .before .before .before .before .before .before .before .before .if1 .left) ∙ return-back _ _ _ _ (c .before .before .before .before .before .before .before .before .if2 .left) ∙ back-one _ _ (getD (L .sorts) (c .before .before .before .before .before .before .before .before .before .before .before .before .before .before .args .g .method) 0) (rw o (c .before .before .before .before .before .passed .ensures .0)) (due-one (c .before .before .if3 .left))))
+    let d : tie.After-unreturned = c .before .before .before .before .before .before .before .before .before .before .before in
+    rw (c .back2 .ensures) (record { low = omega (arith, first d .pre .0); deep = omega (arith, first d .pre .1 .room (first d .args .g .top - 1) (omega arith), due-one (c .before .before .before .if3 .left)); row = first d .pre .1 .row (first d .args .g .top - 1) (omega arith); few = first d .pre .0 .few }, λ L s o v h p. back (through _ _ (d .unreturned .ensures .1 L (base s (first d)) (same-at _ v refl) h p) (c .before .before .before .before .before .before .before .before .before .before .if1 .left) ∙ return-back _ _ _ _ (c .before .before .before .before .before .before .before .before .before .if2 .left) ∙ back-one _ _ (getD (L .sorts) (first d .args .g .method) 0) (rw o (c .before .before .before .before .before .before .passed .ensures .0)) (due-one (c .before .before .before .if3 .left))))
 
 pub ret-spec : {M : Type 1} → statement M
 ret-spec =
@@ -129,6 +140,7 @@ ret-spec =
     element-copy-out-d
     mul-method
     element-copy-out-method
+    back-requires
     returns-3
     mul-from
     mul-to
@@ -139,5 +151,6 @@ ret-spec =
     element-copy-out-bits
     mul-bits-2
     element-write-bits
-    add-t31
+    add-back
+    back-requires-2
     returns-4)

@@ -1,22 +1,39 @@
 use borrow.Author.Needs.{needs}
 use Prim.Native.Nat.{ℕ, _%_}
-use mathlib.Core.Path.{refl, ap, _∙_}
-use borrow.Author.Tests.{not-true, not-false}
+use mathlib.Core.Path.{_≡_, refl, ap, _∙_}
+use mathlib.Core.List.{List}
 use native.Mathlib.Omega.{arith}
-use Rattle.model.specs.Answer.{_>>=_, guard}
+use lib.Dec.{eqb}
 use lib.ListN.{getD, set}
+use borrow.Author.Tests.{not-true, not-false}
+use Rattle.model.specs.Answer.{_>>=_, guard, pick}
+use Rattle.tables.specs.declared.Loaded.{Loaded}
 use Rattle.cells.specs.declared.Cells.{Cells}
-use Rattle.frames.specs.Lent.{onStatic}
-use Rattle.frames.proofs.Begun.{through, aside, starts-at}
-use Rattle.cells.specs.Cells.{put, goto}
+use Rattle.cells.specs.Cells.{withMarks, enterC, rowOfToken, ldsfldC, put, goto}
+use Rattle.plain.specs.Steps.{Few}
 use Rattle.plain.proofs.Answers.{within, beyond, stops, goes, instead}
-use Rattle.frames.proofs.Reached.{ldsfld-none, ldsfld-room, put-same}
+use Rattle.frames.specs.Lent.{StartsOf, FieldsOf, onStatic}
+use Rattle.frames.proofs.Begun.{through, aside, starts-at}
+use Rattle.frames.proofs.Reached.{loadedStatic, ldsfld-none, ldsfld-room, put-same}
 use Rattle.frames.proofs.statics.ldsfld.Statement.{statement}
 use Rattle.frames.proofs.statics.ldsfld.Tie as tie
 
 -- the cells at entry
 abbrev base : Cells → tie.Start → Cells
 base s c = onStatic s (c .args .g) (c .args .kinds .now) (c .args .bits .now) (c .args .locs .now) (c .args .ats .now) (c .args .depths .now) (c .args .methods .now) (c .args .marks .now) (c .args .statics .now)
+
+abbrev first : tie.After-due → tie.Start
+first c = c .before .before .before .before .before .before .before .before .before
+
+abbrev marked : tie.After-due → List ℕ
+marked c = set (first c .args .marks .now) (c .before .before .wide2 .result) 1
+
+-- what is said, by the initialiser that is due
+said : (c : tie.After-due) (L : Loaded) (s : Cells) → FieldsOf L (first c .args .count) (first c .args .owners .now) (first c .args .flags .now) (first c .args .types .now) (first c .args .slots .now) → StartsOf L (first c .args .locals .now) (first c .args .initialisers .now) → L .stacks ≡ first c .args .stacks .now → Few 1 (first c .args .marks .now)
+    → ldsfldC L (base s (first c)) (first c .args .token) (first c .args .next) ≡ pick (eqb (c .due .result) 0) (loadedStatic (base s (first c)) (first c .args .next) (getD (first c .args .types .now) (rowOfToken (first c .args .token)) 0) (getD (first c .args .slots .now) (rowOfToken (first c .args .token)) 0) (marked c)) (enterC L (withMarks (base s (first c)) (marked c)) (c .due .result) (first c .args .g .depth))
+unfolding guard _>>=_
+said c L s q e k f =
+    ldsfld-room L _ _ _ q (c .before .before .before .before .before .before .before .before .is-tagged .ensures .0) (not-false _ (c .before .before .before .before .before .before .before .if1 .left)) (within _ k (c .before .before .before .before .before .wide .ensures .0) (c .before .before .before .before .if2 .left)) ∙ starts-at L _ _ (c .before .before .wide2 .ensures .0) (c .due .ensures .1 L (base s (first c)) _ (e .same-initialisers) f)
 
 is-tagged-requires : tie.Need-is-tagged-requires
 is-tagged-requires c κs = c .pre .1 .0 .rows
@@ -58,12 +75,13 @@ due-requires c κs =
 
 initialise-requires : tie.Need-initialise-requires
 initialise-requires c κs =
-    (c .before .before .before .before .before .before .before .before .before .before .before .before .before .before .before .pre .0, ((omega (arith, c .before .before .before .before .before .before .before .before .before .before .before .before .before .before .before .pre .1 .0 .few-owners .most (c .before .before .before .before .before .before .before .before .before .before .before .before .before .before .before .args .token % 16777216), c .before .before .before .before .before .before .before .before .wide2 .ensures .0), c .before .before .before .before .before .before .due .ensures .0), c .before .before .before .before .before .before .before .before .before .before .before .before .before .before .before .pre .1 .1 .0 .few-locals))
+    let d : tie.After-due = c .before .before .before .before .before .before in
+    (first d .pre .0, ((omega (arith, first d .pre .1 .0 .few-owners .most (first d .args .token % 16777216), d .before .before .wide2 .ensures .0), d .due .ensures .0), first d .pre .1 .1 .0 .few-locals))
 
 returns-3 : tie.Need-returns-3
 unfolding guard _>>=_
 returns-3 c =
-    (c .initialise .ensures .0, λ L s q e k f. instead (aside _ _ (ldsfld-room L _ _ _ q (c .before .before .before .before .before .before .before .before .before .before .before .before .before .before .before .is-tagged .ensures .0) (not-false _ (c .before .before .before .before .before .before .before .before .before .before .before .before .before .before .if1 .left)) (within _ k (c .before .before .before .before .before .before .before .before .before .before .before .before .wide .ensures .0) (c .before .before .before .before .before .before .before .before .before .before .before .if2 .left)) ∙ starts-at L _ _ (c .before .before .before .before .before .before .before .before .before .wide2 .ensures .0) (c .before .before .before .before .before .before .before .due .ensures .1 L (base s (c .before .before .before .before .before .before .before .before .before .before .before .before .before .before .before .before)) _ (e .same-initialisers) f)) (c .before .before .before .before .before .before .if3 .taken)) (c .initialise .ensures .1 L (base s (c .before .before .before .before .before .before .before .before .before .before .before .before .before .before .before .before)) (e .same-locals)))
+    (c .initialise .ensures .0, λ L s q e k f. instead (aside _ _ (said (c .before .before .before .before .before .before .before) L s q e k f) (c .before .before .before .before .before .before .if3 .taken)) (c .initialise .ensures .1 L (base s (c .before .before .before .before .before .before .before .before .before .before .before .before .before .before .before .before)) (e .same-locals)))
 
 element-copy-out-wide-3 : tie.Need-element-copy-out-wide-3
 element-copy-out-wide-3 c =
@@ -93,7 +111,8 @@ kind-of-requires c κs = search needs
 
 element-write-kinds : tie.Need-element-write-kinds
 element-write-kinds c =
-    omega (arith, c .before .before .before .before .before .before .before .before .before .before .before .before .before .before .before .pre .0, c .before .before .before .before .before .before .before .before .before .before .before .before .before .before .before .pre .1 .1 .1 .most (c .before .before .before .before .before .before .before .before .before .before .before .before .before .before .before .args .g .method), c .before .before .before .before .before .before .before .before .before .before .before .wide .ensures .0)
+    let d : tie.After-due = c .before .before .before .before .before .before in
+    omega (arith, first d .pre .0, first d .pre .1 .1 .1 .most (first d .args .g .method), d .before .before .before .before .before .wide .ensures .0)
 
 mul-bits : tie.Need-mul-bits
 mul-bits c =
@@ -105,11 +124,13 @@ element-copy-out-bits c =
 
 mul-bits-2 : tie.Need-mul-bits-2
 mul-bits-2 c =
-    omega (arith, c .before .before .before .before .before .before .before .before .before .before .before .before .before .before .before .before .pre .0, c .before .before .before .before .before .before .before .before .before .before .before .before .before .before .before .before .pre .1 .1 .1 .most (c .before .before .before .before .before .before .before .before .before .before .before .before .before .before .before .before .args .g .method), c .before .before .before .before .before .before .before .before .before .before .before .before .wide .ensures .0)
+    let d : tie.After-due = c .before .before .before .before .before .before .before in
+    omega (arith, first d .pre .0, first d .pre .1 .1 .1 .most (first d .args .g .method), d .before .before .before .before .before .wide .ensures .0)
 
 element-write-bits : tie.Need-element-write-bits
 element-write-bits c =
-    omega (arith, c .before .before .before .before .before .before .before .before .before .before .before .before .before .before .before .before .pre .0, c .before .before .before .before .before .before .before .before .before .before .before .before .before .before .before .before .pre .1 .1 .1 .most (c .before .before .before .before .before .before .before .before .before .before .before .before .before .before .before .before .args .g .method), c .before .before .before .before .before .before .before .before .before .before .before .before .wide .ensures .0)
+    let d : tie.After-due = c .before .before .before .before .before .before .before in
+    omega (arith, first d .pre .0, first d .pre .1 .1 .1 .most (first d .args .g .method), d .before .before .before .before .before .wide .ensures .0)
 
 add-moved : tie.Need-add-moved
 add-moved c =
@@ -121,7 +142,8 @@ moved-requires c κs = search needs
 returns-4 : tie.Need-returns-4
 unfolding guard _>>=_ put goto
 returns-4 c =
-    rw (c .moved .ensures) (omega (arith, c .before .before .before .before .before .before .before .before .before .before .before .before .before .before .before .before .before .pre .0, c .before .before .before .before .before .before .before .before .before .before .before .before .before .before .before .before .before .pre .1 .1 .1 .most (c .before .before .before .before .before .before .before .before .before .before .before .before .before .before .before .before .before .args .g .method), c .before .before .before .before .before .before .before .before .before .before .before .before .before .wide .ensures .0), λ L s q e k f. goes (through _ _ (ldsfld-room L _ _ _ q (c .before .before .before .before .before .before .before .before .before .before .before .before .before .before .before .before .is-tagged .ensures .0) (not-false _ (c .before .before .before .before .before .before .before .before .before .before .before .before .before .before .before .if1 .left)) (within _ k (c .before .before .before .before .before .before .before .before .before .before .before .before .before .wide .ensures .0) (c .before .before .before .before .before .before .before .before .before .before .before .before .if2 .left)) ∙ starts-at L _ _ (c .before .before .before .before .before .before .before .before .before .before .wide2 .ensures .0) (c .before .before .before .before .before .before .before .before .due .ensures .1 L (base s (c .before .before .before .before .before .before .before .before .before .before .before .before .before .before .before .before .before)) _ (e .same-initialisers) f)) (c .before .before .before .before .before .before .before .if3 .left) ∙ put-same (base s (c .before .before .before .before .before .before .before .before .before .before .before .before .before .before .before .before .before)) (c .before .before .before .before .before .before .before .before .before .before .before .before .before .before .before .before .before .args .next) (c .before .before .before .before .before .before .before .before .before .before .before .before .before .before .before .before .before .args .g .depth) (set (c .before .before .before .before .before .before .before .before .before .before .before .before .before .before .before .before .before .args .marks .now) (c .before .before .before .before .before .before .before .before .before .before .wide2 .result) 1) (c .before .before .kind-of .ensures) (ap (λ (x : ℕ). getD (c .before .before .before .before .before .before .before .before .before .before .before .before .before .before .before .before .before .args .statics .now) x 0) (c .before .before .before .before .before .wide3 .ensures .0))))
+    let d : tie.After-due = c .before .before .before .before .before .before .before .before in
+    rw (c .moved .ensures) (omega (arith, first d .pre .0, first d .pre .1 .1 .1 .most (first d .args .g .method), d .before .before .before .before .before .wide .ensures .0), λ L s q e k f. goes (through _ _ (said d L s q e k f) (c .before .before .before .before .before .before .before .if3 .left) ∙ put-same (base s (first d)) (first d .args .next) (first d .args .g .depth) (marked d) (c .before .before .kind-of .ensures) (ap (λ (x : ℕ). getD (first d .args .statics .now) x 0) (c .before .before .before .before .before .wide3 .ensures .0))))
 
 pub ldsfld-spec : {M : Type 1} → statement M
 ldsfld-spec =

@@ -1,21 +1,38 @@
 use borrow.Author.Needs.{needs}
-use Prim.Native.Nat.{_-_, _%_}
-use mathlib.Core.Path.{_∙_}
-use borrow.Author.Tests.{not-true, not-false}
+use Prim.Native.Nat.{ℕ, _-_, _%_}
+use mathlib.Core.Path.{_≡_, _∙_}
+use mathlib.Core.List.{List}
 use native.Mathlib.Omega.{arith}
-use lib.ListN.{set}
+use lib.Dec.{eqb}
+use lib.ListN.{getD, set}
+use borrow.Author.Tests.{not-true, not-false}
+use Rattle.model.specs.Answer.{pick}
+use Rattle.tables.specs.declared.Loaded.{Loaded}
 use Rattle.cells.specs.declared.Cells.{Cells}
-use Rattle.frames.specs.Lent.{onStatic}
-use Rattle.frames.proofs.Begun.{through, aside, starts-at}
-use Rattle.cells.specs.Cells.{withHeap, bitsAt, goto}
+use Rattle.cells.specs.Cells.{withMarks, enterC, rowOfToken, stsfldC, withHeap, bitsAt, goto}
+use Rattle.plain.specs.Steps.{Few, HoldsFits, Placed}
 use Rattle.plain.proofs.Answers.{goes, instead, refused}
-use Rattle.frames.proofs.Reached.{stsfld-none, stsfld-pops, static-same}
+use Rattle.frames.specs.Lent.{StartsOf, FieldsOf, onStatic}
+use Rattle.frames.proofs.Begun.{through, aside, starts-at}
+use Rattle.frames.proofs.Reached.{storedStatic, stsfld-none, stsfld-pops, static-same}
 use Rattle.frames.proofs.statics.stsfld.Statement.{statement}
 use Rattle.frames.proofs.statics.stsfld.Tie as tie
 
 -- the cells at entry
 abbrev base : Cells → tie.Start → Cells
 base s c = withHeap (onStatic s (c .args .g) (c .args .kinds .now) (c .args .bits .now) (c .args .locs .now) (c .args .ats .now) (c .args .depths .now) (c .args .methods .now) (c .args .marks .now) (c .args .statics .now)) (c .args .classes .now) (s .heap)
+
+abbrev first : tie.After-due → tie.Start
+first c = c .before .before .before .before .before .before .before .before .before
+
+abbrev marked : tie.After-due → List ℕ
+marked c = set (first c .args .marks .now) (c .before .before .wide .result) 1
+
+-- what is said, by the initialiser that is due
+said : (c : tie.After-due) (L : Loaded) (s : Cells) → FieldsOf L (first c .args .count) (first c .args .owners .now) (first c .args .flags .now) (first c .args .types .now) (first c .args .slots .now) → StartsOf L (first c .args .locals .now) (first c .args .initialisers .now) → Few 1 (first c .args .marks .now) → HoldsFits (L .parents) (first c .args .table .now) → Placed (first c .args .classes .now)
+    → stsfldC L (base s (first c)) (first c .args .token) (first c .args .next) ≡ pick (eqb (c .due .result) 0) (storedStatic (base s (first c)) (first c .args .next) (getD (first c .args .slots .now) (rowOfToken (first c .args .token)) 0) (bitsAt (base s (first c)) (first c .args .g .depth - 1)) (marked c)) (enterC L (withMarks (base s (first c)) (marked c)) (c .due .result) (first c .args .g .depth))
+said c L s q e f h p =
+    through _ _ (stsfld-pops L _ _ _ q (c .before .before .before .before .before .before .before .before .is-tagged .ensures .0) (not-false _ (c .before .before .before .before .before .before .before .if1 .left)) ∙ c .before .before .before .before .before .refusal .ensures .1 L (base s (first c)) _ h p) (c .before .before .before .before .if2 .left) ∙ starts-at L _ _ (c .before .before .wide .ensures .0) (c .due .ensures .1 L (base s (first c)) _ (e .same-initialisers) f)
 
 is-tagged-requires : tie.Need-is-tagged-requires
 is-tagged-requires c κs = c .pre .1 .0 .rows
@@ -54,11 +71,12 @@ due-requires c κs =
 
 initialise-requires : tie.Need-initialise-requires
 initialise-requires c κs =
-    (c .before .before .before .before .before .before .before .before .before .before .before .before .before .before .before .pre .0, ((omega (arith, c .before .before .before .before .before .before .before .before .before .before .before .before .before .before .before .pre .1 .0 .few-owners .most (c .before .before .before .before .before .before .before .before .before .before .before .before .before .before .before .args .token % 16777216), c .before .before .before .before .before .before .before .before .wide .ensures .0), c .before .before .before .before .before .before .due .ensures .0), c .before .before .before .before .before .before .before .before .before .before .before .before .before .before .before .pre .1 .1 .few-locals))
+    let d : tie.After-due = c .before .before .before .before .before .before in
+    (first d .pre .0, ((omega (arith, first d .pre .1 .0 .few-owners .most (first d .args .token % 16777216), d .before .before .wide .ensures .0), d .due .ensures .0), first d .pre .1 .1 .few-locals))
 
 returns-3 : tie.Need-returns-3
 returns-3 c =
-    (c .initialise .ensures .0, λ L s q e f h p. instead (aside _ _ (through _ _ (stsfld-pops L _ _ _ q (c .before .before .before .before .before .before .before .before .before .before .before .before .before .before .before .is-tagged .ensures .0) (not-false _ (c .before .before .before .before .before .before .before .before .before .before .before .before .before .before .if1 .left)) ∙ c .before .before .before .before .before .before .before .before .before .before .before .before .refusal .ensures .1 L (base s (c .before .before .before .before .before .before .before .before .before .before .before .before .before .before .before .before)) _ h p) (c .before .before .before .before .before .before .before .before .before .before .before .if2 .left) ∙ starts-at L _ _ (c .before .before .before .before .before .before .before .before .before .wide .ensures .0) (c .before .before .before .before .before .before .before .due .ensures .1 L (base s (c .before .before .before .before .before .before .before .before .before .before .before .before .before .before .before .before)) _ (e .same-initialisers) f)) (c .before .before .before .before .before .before .if3 .taken)) (c .initialise .ensures .1 L (base s (c .before .before .before .before .before .before .before .before .before .before .before .before .before .before .before .before)) (e .same-locals)))
+    (c .initialise .ensures .0, λ L s q e f h p. instead (aside _ _ (said (c .before .before .before .before .before .before .before) L s q e f h p) (c .before .before .before .before .before .before .if3 .taken)) (c .initialise .ensures .1 L (base s (c .before .before .before .before .before .before .before .before .before .before .before .before .before .before .before .before)) (e .same-locals)))
 
 element-copy-out-wide-2 : tie.Need-element-copy-out-wide-2
 element-copy-out-wide-2 c =
@@ -105,7 +123,8 @@ moved-requires c κs = search needs
 returns-4 : tie.Need-returns-4
 unfolding goto
 returns-4 c =
-    rw (c .moved .ensures) (omega (arith, c .before .before .before .before .before .before .before .before .before .before .before .before .before .before .before .before .pre .0), λ L s q e f h p. goes (through _ _ (through _ _ (stsfld-pops L _ _ _ q (c .before .before .before .before .before .before .before .before .before .before .before .before .before .before .before .is-tagged .ensures .0) (not-false _ (c .before .before .before .before .before .before .before .before .before .before .before .before .before .before .if1 .left)) ∙ c .before .before .before .before .before .before .before .before .before .before .before .before .refusal .ensures .1 L (base s (c .before .before .before .before .before .before .before .before .before .before .before .before .before .before .before .before)) _ h p) (c .before .before .before .before .before .before .before .before .before .before .before .if2 .left) ∙ starts-at L _ _ (c .before .before .before .before .before .before .before .before .before .wide .ensures .0) (c .before .before .before .before .before .before .before .due .ensures .1 L (base s (c .before .before .before .before .before .before .before .before .before .before .before .before .before .before .before .before)) _ (e .same-initialisers) f)) (c .before .before .before .before .before .before .if3 .left) ∙ static-same (base s (c .before .before .before .before .before .before .before .before .before .before .before .before .before .before .before .before)) (c .before .before .before .before .before .before .before .before .before .before .before .before .before .before .before .before .args .next) (c .before .before .before .before .before .before .before .before .before .before .before .before .before .before .before .before .args .g .depth - 1) (set (c .before .before .before .before .before .before .before .before .before .before .before .before .before .before .before .before .args .marks .now) (c .before .before .before .before .before .before .before .before .before .wide .result) 1) (bitsAt (base s (c .before .before .before .before .before .before .before .before .before .before .before .before .before .before .before .before)) (c .before .before .before .before .before .before .before .before .before .before .before .before .before .before .before .before .args .g .depth - 1)) (c .before .before .before .before .wide2 .ensures .0)))
+    let d : tie.After-due = c .before .before .before .before .before .before .before in
+    rw (c .moved .ensures) (omega (arith, first d .pre .0), λ L s q e f h p. goes (through _ _ (said d L s q e f h p) (c .before .before .before .before .before .before .if3 .left) ∙ static-same (base s (first d)) (first d .args .next) (first d .args .g .depth - 1) (marked d) (bitsAt (base s (first d)) (first d .args .g .depth - 1)) (c .before .before .before .before .wide2 .ensures .0)))
 
 pub stsfld-spec : {M : Type 1} → statement M
 stsfld-spec =

@@ -1,8 +1,8 @@
 use borrow.Author.Needs.{needs}
 use Prim.Native.Nat.{ℕ}
 use mathlib.Core.Path.{_≡_, sym, _∙_}
-use borrow.Author.Tests.{eqb-true, not-true, not-false}
 use native.Mathlib.Omega.{arith}
+use borrow.Author.Tests.{eqb-true, not-true, not-false}
 use Rattle.frames.proofs.Rows.{row-most}
 use Rattle.frames.proofs.tokens.is_tagged.Statement.{statement}
 use Rattle.frames.proofs.tokens.is_tagged.Tie as tie
