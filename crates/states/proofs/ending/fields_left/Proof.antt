@@ -1,0 +1,52 @@
+use Prim.Native.Nat.{_-_, _≤_}
+use native.Mathlib.Omega.{arith}
+use borrow.Author.Needs.{needs}
+use Rattle.states.specs.Ending.{fieldLeft}
+use Rattle.states.proofs.Filling.{Filled, filled-none, filled-more, filled-all}
+use Rattle.states.proofs.ending.fields_left.Statement.{statement}
+use Rattle.states.proofs.ending.fields_left.Tie as tie
+
+abbrev Inv-loop : tie.InvT-loop
+Inv-loop types classes heap out₀ i₀ out i = (i ≤ 2048) × Filled (fieldLeft types classes heap) 2048 i out
+
+abbrev μ-loop : tie.MeasureT-loop
+μ-loop types classes heap out₀ i₀ out i = 2048 - i
+
+loop-holds : tie.Need-loop-holds Inv-loop μ-loop
+loop-holds c = (omega arith, filled-none _ _)
+
+field-left-requires : tie.Need-field-left-requires Inv-loop μ-loop
+field-left-requires c κs = search needs
+
+mul-out : tie.Need-mul-out Inv-loop μ-loop
+mul-out c = omega arith
+
+array-write-out : tie.Need-array-write-out Inv-loop μ-loop
+array-write-out c = omega arith
+
+add-i : tie.Need-add-i Inv-loop μ-loop
+add-i c = omega arith
+
+loop-less : tie.Need-loop-less Inv-loop μ-loop
+loop-less c = omega arith
+
+loop-again : tie.Need-loop-again Inv-loop μ-loop
+loop-again c = (omega arith, filled-more _ _ _ _ _ (c .before .loop-test .taken) (c .field-left .ensures) (c .before .before .loop .inv .1))
+
+returns : tie.Need-returns Inv-loop μ-loop
+returns c = filled-all _ _ _ _ (c .loop-test .left) (c .before .loop .inv .1)
+
+pub fields-left-spec : {M : Type 1} → statement M
+fields-left-spec =
+    tie.close
+    (tie.spec
+    Inv-loop
+    μ-loop
+    loop-holds
+    field-left-requires
+    mul-out
+    array-write-out
+    add-i
+    loop-less
+    loop-again
+    returns)

@@ -1,0 +1,52 @@
+use Prim.Native.Nat.{_-_, _≤_}
+use native.Mathlib.Omega.{arith}
+use borrow.Author.Needs.{needs}
+use Rattle.states.specs.Ending.{locLeft}
+use Rattle.states.proofs.Filling.{Filled, filled-none, filled-more, filled-all}
+use Rattle.states.proofs.ending.locs_left.Statement.{statement}
+use Rattle.states.proofs.ending.locs_left.Tie as tie
+
+abbrev Inv-loop : tie.InvT-loop
+Inv-loop types live methods locs out₀ i₀ out i = (i ≤ 512) × Filled (locLeft types live methods locs) 512 i out
+
+abbrev μ-loop : tie.MeasureT-loop
+μ-loop types live methods locs out₀ i₀ out i = 512 - i
+
+loop-holds : tie.Need-loop-holds Inv-loop μ-loop
+loop-holds c = (omega arith, filled-none _ _)
+
+loc-left-requires : tie.Need-loc-left-requires Inv-loop μ-loop
+loc-left-requires c κs = search needs
+
+mul-out : tie.Need-mul-out Inv-loop μ-loop
+mul-out c = omega arith
+
+array-write-out : tie.Need-array-write-out Inv-loop μ-loop
+array-write-out c = omega arith
+
+add-i : tie.Need-add-i Inv-loop μ-loop
+add-i c = omega arith
+
+loop-less : tie.Need-loop-less Inv-loop μ-loop
+loop-less c = omega arith
+
+loop-again : tie.Need-loop-again Inv-loop μ-loop
+loop-again c = (omega arith, filled-more _ _ _ _ _ (c .before .loop-test .taken) (c .loc-left .ensures) (c .before .before .loop .inv .1))
+
+returns : tie.Need-returns Inv-loop μ-loop
+returns c = filled-all _ _ _ _ (c .loop-test .left) (c .before .loop .inv .1)
+
+pub locs-left-spec : {M : Type 1} → statement M
+locs-left-spec =
+    tie.close
+    (tie.spec
+    Inv-loop
+    μ-loop
+    loop-holds
+    loc-left-requires
+    mul-out
+    array-write-out
+    add-i
+    loop-less
+    loop-again
+    returns)
