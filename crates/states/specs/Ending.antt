@@ -6,8 +6,7 @@ use lib.Dec.{ltb}
 use Rattle.model.specs.Answer.{pick}
 use Rattle.cells.specs.declared.Regs.{Regs}
 use Rattle.cells.specs.declared.Cells.{Cells}
-use Rattle.cells.specs.declared.State.{State}
-use Rattle.cells.specs.View.{span, shown}
+use Rattle.cells.specs.View.{shown}
 use Rattle.cells.specs.Layout.{alive, shownByte}
 
 -- the cells of registers and arrays
@@ -35,21 +34,3 @@ staticLeft types statics i = shownByte (getD types i 0) (getD statics i 0)
 -- fields by the types of the object's class
 unfoldable pub fieldLeft : List ℕ → List ℕ → List ℕ → ℕ → ℕ
 fieldLeft types classes heap i = shownByte (getD types (getD classes (i / 8) 0 * 8 + i % 8) 0) (getD heap i 0)
-
--- the whole state, every frame saved like a waiting one
-unfoldable pub leftOf : (live : ℕ) (types statics' cells kinds bits args locs ats depths methods statics marks classes heap : List ℕ) → State
-leftOf live types statics' cells kinds bits args locs ats depths methods statics marks classes heap =
-    record {
-      live = live;
-      kinds = span (kindLeft live depths kinds) 0 1024;
-      bits = span (bitsLeft live depths kinds bits) 0 1024;
-      args = span (argLeft types live methods args) 0 256;
-      locs = span (locLeft types live methods locs) 0 512;
-      ats = span (alive live ats) 0 32;
-      depths = span (alive live depths) 0 32;
-      methods = span (alive live methods) 0 32;
-      statics = span (staticLeft statics' statics) 0 64;
-      marks = marks;
-      classes = classes;
-      heap = span (fieldLeft cells classes heap) 0 2048;
-    }

@@ -10,7 +10,7 @@ ghost use Rattle.cells.specs.declared.Derived.{Derived};
 ghost use Rattle.cells.specs.View.{span, shown};
 ghost use Rattle.cells.specs.Layout.{save, alive, shownByte, tidy};
 ghost use Rattle.plain.specs.Steps.{Ok, Few, Placed};
-ghost use Rattle.states.specs.Ending.{pack, kindLeft, bitsLeft, argLeft, locLeft, staticLeft, fieldLeft, leftOf};
+ghost use Rattle.states.specs.Ending.{pack, kindLeft, bitsLeft, argLeft, locLeft, staticLeft, fieldLeft};
 
 // What is saved of a frame that is live, else 0.
 fn alive(live: usize, saved: &[usize; 32], frame: usize) -> usize
@@ -245,54 +245,6 @@ fn fields_left(types: &[u8; 264], classes: &[u8; 256], heap: &[u64; 2048]) -> [u
     out
 }
 
-// The state of the first `live` frames, each saved like a waiting one.
-fn wiped(
-    live: usize,
-    types: &[u8; 3096],
-    static_types: &[u8; 64],
-    cell_types: &[u8; 264],
-    kinds: &[u8; 1024],
-    bits: &[u64; 1024],
-    args: &[u64; 256],
-    locs: &[u64; 512],
-    ats: &[usize; 32],
-    depths: &[usize; 32],
-    methods: &[usize; 32],
-    statics: &[u64; 64],
-    marks: &[u8; 33],
-    classes: &[u8; 256],
-    heap: &[u64; 2048],
-) -> State
-    requires { ⌜ Few 128 (now methods) ⌝ ∗ ⌜ Placed (now classes) ⌝ }
-    ensures { λ r. ⌜ r ≡ leftOf live (now (types .entry)) (now («static_types» .entry)) (now («cell_types» .entry)) (now (kinds .entry)) (now (bits .entry)) (now (args .entry)) (now (locs .entry)) (now (ats .entry)) (now (depths .entry)) (now (methods .entry)) (now (statics .entry)) (now (marks .entry)) (now (classes .entry)) (now (heap .entry)) ⌝ }
-{
-    let kinds_out = kinds_left(live, depths, kinds);
-    let bits_out = bits_left(live, depths, kinds, bits);
-    let args_out = args_left(types, live, methods, args);
-    let locs_out = locs_left(types, live, methods, locs);
-    let ats_out = frames(live, ats);
-    let depths_out = frames(live, depths);
-    let methods_out = frames(live, methods);
-    let statics_out = statics_left(static_types, statics);
-    let heap_out = fields_left(cell_types, classes, heap);
-    let marks_out = *marks;
-    let classes_out = *classes;
-    State {
-        live: live,
-        kinds: kinds_out,
-        bits: bits_out,
-        args: args_out,
-        locs: locs_out,
-        ats: ats_out,
-        depths: depths_out,
-        methods: methods_out,
-        statics: statics_out,
-        marks: marks_out,
-        classes: classes_out,
-        heap: heap_out,
-    }
-}
-
 // The state of a run that is over: the running frame is saved like the waiting ones, and the first `live` frames are handed back.
 pub fn tidy(
     g: Regs,
@@ -318,21 +270,18 @@ pub fn tidy(
     let a = saved(ats, g.top, g.at);
     let d = saved(depths, g.top, g.depth);
     let m = saved(methods, g.top, g.method);
-    wiped(
-        live,
-        types,
-        static_types,
-        cell_types,
-        kinds,
-        bits,
-        args,
-        locs,
-        &a,
-        &d,
-        &m,
-        statics,
-        marks,
-        classes,
-        heap,
-    )
+    State {
+        live: live,
+        kinds: kinds_left(live, &d, kinds),
+        bits: bits_left(live, &d, kinds, bits),
+        args: args_left(types, live, &m, args),
+        locs: locs_left(types, live, &m, locs),
+        ats: frames(live, &a),
+        depths: frames(live, &d),
+        methods: frames(live, &m),
+        statics: statics_left(static_types, statics),
+        heap: fields_left(cell_types, classes, heap),
+        marks: *marks,
+        classes: *classes,
+    }
 }
