@@ -1,0 +1,76 @@
+use Rattle.shapes.proofs.Doing.{ldfld-few, ldfld-right, ldfld-wrong}
+use Rattle.shapes.proofs.Replies.{refuses, brings, one, few-1}
+use Rattle.shapes.specs.Pool.{Pool, pool}
+use Rattle.model.specs.Check.{effect}
+use Rattle.model.specs.Code.{Act}
+use Rattle.model.specs.Tables.{class}
+use native.Mathlib.Omega.{arith}
+use mathlib.Core.Path.{_≡_, refl, sym, _∙_}
+use borrow.Author.Needs.{needs}
+use Rattle.shapes.proofs.effect.ldfld.Statement.{statement}
+use Rattle.shapes.proofs.effect.ldfld.Tie as tie
+use Rattle.shapes.proofs.effect.ldfld.Reads as reads
+use Rattle.shapes.proofs.effect.ldfld.Lts as lts
+use Rattle.shapes.proofs.fit.fits.Reads as fits-reads
+use Rattle.shapes.proofs.shape.below.Reads as below-reads
+use Rattle.shapes.proofs.shape.fault.Reads as fault-reads
+use Rattle.shapes.proofs.shape.put.Reads as put-reads
+
+-- begin
+abbrev P0 : tie.Start → Pool
+P0 c = pool (c .args .tops .now) (c .args .belows .now) (c .args .heights .now) (c .args .made)
+-- end
+
+element-copy-out-h : tie.Need-element-copy-out-h
+element-copy-out-h c = search needs
+
+fault-requires : tie.Need-fault-requires
+fault-requires c κs = search needs
+
+returns : tie.Need-returns
+returns c =
+    (search needs, λ M m d p e q f S w. refuses (P0 (c .before .before .before)) (c .fault .result) 13 (effect M m (Act.ldfld 0 d) S) (few-1 (P0 (c .before .before .before)) (effect M m (Act.ldfld 0 d)) (c .before .before .before .args .s) 13 (ldfld-few M m d) (c .before .if1 .taken) S w) (omega arith) (c .fault .ensures) f)
+
+element-copy-out-fits : tie.Need-element-copy-out-fits
+element-copy-out-fits c = search needs
+
+fits-requires : tie.Need-fits-requires
+fits-requires c κs = search needs
+
+below-requires : tie.Need-below-requires
+below-requires c κs = search needs
+
+put-requires : tie.Need-put-requires
+put-requires c κs = search needs
+
+returns-2 : tie.Need-returns-2
+returns-2 c =
+    (search needs, λ M m d p e q f S w.
+        let o = one (P0 (c .before .before .before .before .before .before .before .before .before .before .before)) S (c .before .before .before .before .before .before .before .before .before .before .before .args .s) f (c .before .before .before .before .before .before .before .before .before .if1 .left) w in
+        brings (P0 (c .before .before .before .before .before .before .before .before .before .before .before)) (c .put .result) _ _ _ (d .type) (o .rest) (effect M m (Act.ldfld 0 d) S) _ _ _
+        (ldfld-right M m d (o .top) S (o .rest) (o .is) (sym (c .before .before .before .before .before .before .if2 .taken) ∙ c .before .before .before .before .before .before .before .fits2 .ensures (M .parents) (o .top) (class (d .owner)) p (o .byte) e))
+        (search needs) (c .put .ensures) q (o .height) (o .below _ (c .before .before .before .before .below .ensures .1)) f)
+
+fault-requires-2 : tie.Need-fault-requires-2
+fault-requires-2 c κs = search needs
+
+returns-3 : tie.Need-returns-3
+returns-3 c =
+    (search needs, λ M m d p e q f S w.
+        let o = one (P0 (c .before .before .before .before .before .before)) S (c .before .before .before .before .before .before .args .s) f (c .before .before .before .before .if1 .left) w in
+        refuses (P0 (c .before .before .before .before .before .before)) (c .fault2 .result) 15 (effect M m (Act.ldfld 0 d) S) (ldfld-wrong M m d (o .top) S (o .rest) (o .is) (sym (c .before .if2 .left) ∙ c .before .before .fits2 .ensures (M .parents) (o .top) (class (d .owner)) p (o .byte) e)) (omega arith) (c .fault2 .ensures) f)
+
+pub ldfld-spec : {M : Type 1} → statement M
+ldfld-spec =
+    tie.close
+    (tie.spec
+    element-copy-out-h
+    fault-requires
+    returns
+    element-copy-out-fits
+    fits-requires
+    below-requires
+    put-requires
+    returns-2
+    fault-requires-2
+    returns-3)

@@ -1,0 +1,51 @@
+use Rattle.shapes.proofs.Doing.{push-full, push-room}
+use Rattle.shapes.proofs.Replies.{refuses, brings}
+use Rattle.shapes.proofs.Showing.{height}
+use Rattle.shapes.specs.Pool.{Pool, pool}
+use Rattle.model.specs.Check.{pushes}
+use native.Mathlib.Numerals.{add-one}
+use native.Mathlib.Omega.{arith}
+use mathlib.Core.Path.{_≡_, ap, _∙_}
+use Prim.Native.Nat.{suc, _<_}
+use borrow.Author.Needs.{needs}
+use Rattle.shapes.proofs.effect.push.Statement.{statement}
+use Rattle.shapes.proofs.effect.push.Tie as tie
+use Rattle.shapes.proofs.effect.push.Reads as reads
+use Rattle.shapes.proofs.effect.push.Lts as lts
+use Rattle.shapes.proofs.shape.fault.Reads as fault-reads
+use Rattle.shapes.proofs.shape.put.Reads as put-reads
+
+-- begin
+abbrev P0 : tie.Start → Pool
+P0 c = pool (c .args .tops .now) (c .args .belows .now) (c .args .heights .now) (c .args .made)
+-- end
+
+-- src/effect.rt:30:13
+element-copy-out-h : tie.Need-element-copy-out-h
+element-copy-out-h c = search needs
+
+-- src/effect.rt:32:9
+fault-requires : tie.Need-fault-requires
+fault-requires c κs = search needs
+
+-- src/effect.rt:32:9
+returns : tie.Need-returns
+returns c =
+    (search needs, λ m u e q f S w. refuses (P0 (c .before .before .before)) (c .fault .result) 14 (pushes m u S) (push-full m u S _ _ e (height (P0 (c .before .before .before)) S (c .before .before .before .args .s) w) (c .before .if1 .taken)) (omega arith) (c .fault .ensures) f)
+
+-- src/effect.rt:34:44
+add-put : tie.Need-add-put
+add-put c = search needs
+
+-- src/effect.rt:34:5
+put-requires : tie.Need-put-requires
+put-requires c κs = search needs
+
+-- src/effect.rt:26:1
+returns-2 : tie.Need-returns-2
+returns-2 c =
+    (search needs, λ m u e q f S w. brings (P0 (c .before .before .before .before .before .before)) (c .put .result) _ _ _ u S (pushes m u S) _ _ _ (push-room m u S _ _ e (height (P0 (c .before .before .before .before .before .before)) S (c .before .before .before .before .before .before .args .s) w) (c .before .before .before .before .if1 .left)) (search needs) (c .put .ensures) q (add-one _ ∙ ap suc (height (P0 (c .before .before .before .before .before .before)) S (c .before .before .before .before .before .before .args .s) w)) w f)
+
+pub push-spec : {M : Type 1} → statement M
+push-spec =
+    tie.close (tie.spec element-copy-out-h fault-requires returns add-put put-requires returns-2)

@@ -1,0 +1,27 @@
+use Rattle.model.specs.Tables.{byteOf}
+use native.Mathlib.Omega.{arith}
+use mathlib.Core.Path.{_≡_}
+use Prim.Native.Nat.{_+_, _<_, _≤_}
+use borrow.Author.Needs.{needs}
+use Rattle.shapes.proofs.fit.class_byte.Statement.{statement}
+use Rattle.shapes.proofs.fit.class_byte.Tie as tie
+use Rattle.shapes.proofs.fit.class_byte.Reads as reads
+use Rattle.shapes.proofs.fit.class_byte.Lts as lts
+
+-- src/fit.rt:22:16
+add-result : tie.Need-add-result
+add-result c = search needs
+
+-- src/fit.rt:22:9
+returns : tie.Need-returns
+unfolding byteOf
+returns c =
+    λ h. omega arith
+
+-- src/fit.rt:18:1
+returns-2 : tie.Need-returns-2
+returns-2 c =
+    λ h. let k : 224 ≤ c .before .args .row = c .if1 .left in absurd (omega arith)
+
+pub class-byte-spec : {M : Type 1} → statement M
+class-byte-spec = tie.close (tie.spec add-result returns returns-2)

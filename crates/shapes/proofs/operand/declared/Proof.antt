@@ -1,0 +1,58 @@
+use Rattle.shapes.proofs.Operands.{type-none, type-some}
+use native.Mathlib.Omega.{arith}
+use mathlib.Core.Path.{_≡_, sym, _∙_}
+use Prim.Native.Nat.{_+_, _*_, _≤_, _<_}
+use borrow.Author.Needs.{needs}
+use Rattle.shapes.proofs.operand.declared.Statement.{statement}
+use Rattle.shapes.proofs.operand.declared.Tie as tie
+use Rattle.shapes.proofs.operand.declared.Reads as reads
+use Rattle.shapes.proofs.operand.declared.Lts as lts
+use Rattle.shapes.proofs.fit.wide.Reads as wide-reads
+
+returns : tie.Need-returns
+returns c =
+    λ ts e l t. type-none ts _ (omega arith)
+
+element-copy-out-wide : tie.Need-element-copy-out-wide
+element-copy-out-wide c = search needs
+
+wide-requires : tie.Need-wide-requires
+wide-requires c κs = search needs
+
+returns-2 : tie.Need-returns-2
+returns-2 c =
+    λ ts e l t. let k = c .before .wide .ensures .0 in type-none ts _ (omega (arith, k))
+
+mul-at : tie.Need-mul-at
+mul-at c = search needs
+
+add-at : tie.Need-add-at
+add-at c = search needs
+
+add-at-2 : tie.Need-add-at-2
+add-at-2 c = search needs
+
+element-copy-out-wide-2 : tie.Need-element-copy-out-wide-2
+element-copy-out-wide-2 c = search needs
+
+wide-requires-2 : tie.Need-wide-requires-2
+wide-requires-2 c κs = search needs
+
+returns-3 : tie.Need-returns-3
+returns-3 c =
+    λ ts e l t. let k = c .before .before .before .wide .ensures .0 in type-some (c .before .before .before .before .before .before .args .types .now) (c .before .before .before .before .before .before .args .row * 24 + c .before .before .before .before .before .before .args .from) ts _ _ (omega (arith, k)) t (c .wide2 .ensures .0) (c .wide2 .ensures .1)
+
+pub declared-spec : {M : Type 1} → statement M
+declared-spec =
+    tie.close
+    (tie.spec
+    returns
+    element-copy-out-wide
+    wide-requires
+    returns-2
+    mul-at
+    add-at
+    add-at-2
+    element-copy-out-wide-2
+    wide-requires-2
+    returns-3)

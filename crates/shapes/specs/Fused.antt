@@ -1,0 +1,64 @@
+-- One pass for operands and shapes.
+use Prim.Native.Nat.{ℕ, zero, suc, _+_, _≤_, _<_}
+use mathlib.Core.Path.{_≡_}
+use mathlib.Core.Bool.{Bool, true, false, not, _&&_, _||_}
+use mathlib.Core.Option.{Option, none, some}
+use mathlib.Core.List.{List, [], _∷_}
+use lib.ListN.{length, getD, set, replicate}
+use Rattle.model.specs.Answer.{Answer, bad, ok, _>>=_, guard, need, blame, isNone, onlyIf}
+use Rattle.model.specs.Tables.{Method, Module}
+use Rattle.model.specs.Loading.{Refusal, refusal}
+use Rattle.model.specs.Code.{Ins, Act, andThen, operands}
+use Rattle.model.specs.Check.{Shape, Shapes, Site, starts, targets, allStart, falls, findOperands, effect, shapeAt, visit, visits, decodeFrom, Fault}
+use Rattle.shapes.specs.Pool.{Pool, pool, Fine}
+use Rattle.shapes.specs.Found.{Starts, WentBy}
+use Rattle.code.specs.declared.insn.Insn.{Insn}
+use Rattle.code.specs.Insn.{insOf}
+
+-- an instruction's act, if its operands and targets are right
+unfoldable pub actOf : Module → Method → List (Site Ins) → Ins → Option Act
+actOf M m all i = andThen (operands M m i) (λ a. onlyIf (allStart all (targets a)) (some a))
+
+-- operands from here on, then shapes from here on
+unfoldable pub onward : Module → Method → List (Site Ins) → List (Site Ins) → Shapes → Answer Refusal Shapes
+onward M m all l F = findOperands M m all l >>= λ k. visits M m F k
+
+-- the number and offset of a method's first fault; number 0 where it passes
+unfoldable pub Tells : ℕ → ℕ → Answer Refusal Shapes → Type 0
+Tells number offset (bad f) = (refusal offset number ≡ f) × (10 < number) × (number < 18)
+Tells number offset (ok F) = number ≡ 0
+
+-- an operand fault at an offset, or none and the code's length
+unfoldable pub Late : {A : Type 0} → ℕ → ℕ → ℕ → ℕ → Answer Refusal A → Type 0
+Late number offset n o (bad f) = (refusal offset number ≡ f) × (number ≡ 12)
+Late number offset n o (ok a) = (number ≡ n) × (offset ≡ o)
+
+-- the first n of a list are 0
+pub record Cleared (n : ℕ) (l k : List ℕ) : Type 0 where
+  pub size : length k ≡ length l
+  pub zeros : (o : ℕ) → o < n → getD k o 0 ≡ 0
+
+-- where decoding fails, or the code's length and every start marked
+unfoldable pub Scanned : ℕ → ℕ → List ℕ → Answer Refusal (List (Site Ins)) → Type 0
+Scanned n r l (bad f) = (refusal r 11 ≡ f) × (r < n)
+Scanned n r l (ok all) = (r ≡ n) × Starts all n l
+
+-- nothing is found yet
+unfoldable pub nothing : ℕ → Shapes
+nothing n = replicate n none
+
+-- the arrays are ready for a method
+pub record Ready (starts found tops belows heights : List ℕ) : Type 0 where
+  pub starts-size : length starts ≡ 1024
+  pub found-size : length found ≡ 1024
+  pub fine : Fine (pool tops belows heights 2)
+
+-- what a visit of the instruction at an offset leaves
+unfoldable pub Visits : Module → Method → List (Site Ins) → Shapes → ℕ → Insn → ℕ → ℕ → List ℕ → Pool → Type 0
+Visits M m all F at i n fault found Q =
+    WentBy Q n fault found (λ a. visit M m F (record { offset = at; what = a; next = i .next })) (actOf M m all (insOf i)) × Fine Q
+
+-- what a method that passes leaves
+pub record Passing (found : List ℕ) (Q : Pool) : Type 0 where
+  pub size : length found ≡ 1024
+  pub fine : Fine Q

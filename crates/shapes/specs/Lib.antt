@@ -1,0 +1,9 @@
+pub mod Pool
+pub mod Kinds
+pub mod Effects
+pub mod Groups
+pub mod Held
+pub mod Found
+pub mod Fused
+pub mod Bounded
+pub mod Verdicts

@@ -1,0 +1,156 @@
+// One instruction of the check: its operand, its effect, where its shape arrives, and whether it can fall past the end.
+ghost use mathlib.Core.Path.{_≡_};
+ghost use mathlib.Core.Bool.{true};
+ghost use mathlib.Core.Option.{none, some};
+ghost use mathlib.Core.List.{List, []};
+ghost use Prim.Native.Nat.{ℕ, _≤_, _<_};
+ghost use lib.ListN.{getD, set};
+ghost use Rattle.model.specs.Answer.{mapOption};
+ghost use Rattle.model.specs.Code.{Ins};
+ghost use Rattle.model.specs.Check.{Shape, Shapes, Site, meet, jumpEffect, shapeAt};
+ghost use Rattle.code.specs.Operand.{targetOf, held};
+ghost use Rattle.shapes.specs.Pool.{Pool, pool, Fine, Shows, Small, Effect};
+ghost use Rattle.shapes.specs.Groups.{jumpBy, targetBy};
+ghost use Rattle.shapes.specs.Found.{Kept, Starts, Met, Went, WentOn, WentBy, Lands, landing, goesOn, jumped};
+use code::operand::Target;
+use code::operand::near_target;
+use code::operand::far_target;
+use super::shape::same;
+use super::shape::fault;
+use super::shape::After;
+use super::effect::test;
+use super::effect::when;
+
+// An arrival: the first brings the shape, every later one must bring the same.
+pub fn meets(tops: &[u8; 2048], belows: &[u16; 2048], heights: &[u8; 2048], found: &mut [u16; 1024], o: usize, s: usize) -> bool
+    requires { ⌜ o < 1024 ⌝ ∗ ⌜ s < 2048 ⌝ }
+    ensures { λ r. ⌜ ((k n : ℕ) (F : Shapes) (S : Shape) → Fine (pool (now (tops .entry)) (now (belows .entry)) (now (heights .entry)) k) → Kept (pool (now (tops .entry)) (now (belows .entry)) (now (heights .entry)) k) n F (now (found .entry)) → o < n → n ≤ 1024 → Shows (pool (now (tops .entry)) (now (belows .entry)) (now (heights .entry)) k) S s → Met (pool (now (tops .entry)) (now (belows .entry)) (now (heights .entry)) k) n r (now (found .exit)) (meet F o S (getD F o none))) ⌝ }
+{
+    let f = (found[o] % 2048) as usize;
+    if f == 0 {
+        found[o] = s as u16;
+        return true;
+    }
+    same(tops, belows, heights, s, f)
+}
+
+// Where a branch goes, by the width of its distance.
+fn target_of(op: usize, next: usize, d: u64) -> Target
+    ensures { λ r. ⌜ targetOf r ≡ mapOption held (targetBy op next d) ⌝ }
+{
+    if op < 0x38 {
+        return near_target(next, d);
+    }
+    far_target(next, d)
+}
+
+// The target of a branch, 1024 where it starts no instruction.
+pub fn lands(starts: &[u8; 1024], size: usize, op: usize, next: usize, d: u64) -> usize
+    ensures { λ r. ⌜ r ≤ 1024 ⌝ ∗ ⌜ ((all : List (Site Ins)) → size ≤ 1024 → Starts all size (now (starts .entry)) → Lands size r (landing all size (targetBy op next d))) ⌝ }
+{
+    match target_of(op, next, d) {
+        Target::Before => 1024,
+        Target::At(t) => {
+            if size <= t {
+                return 1024;
+            }
+            if 1024 <= t {
+                return 1024;
+            }
+            if starts[t] == 1 {
+                return t;
+            }
+            1024
+        }
+    }
+}
+
+// The effect of a branch: 33 br, 34 brtrue and brfalse, 35 beq and bne.un, else another comparison.
+pub fn branch(tops: &[u8; 2048], belows: &[u16; 2048], heights: &[u8; 2048], made: usize, s: usize, g: u8) -> After
+    requires { ⌜ made < 2048 ⌝ ∗ ⌜ s < 2048 ⌝ }
+    ensures { λ r. ⌜ Small r made ⌝ ∗ ⌜ (Effect (pool (now (tops .entry)) (now (belows .entry)) (now (heights .entry)) made) (pool (now (tops .entry)) (now (belows .entry)) (now (heights .entry)) made) r s (jumpEffect (jumpBy g))) ⌝ }
+{
+    if g == 33 {
+        return After {
+            fault: 0,
+            shape: s,
+            made,
+        };
+    }
+    if g == 34 {
+        return test(tops, belows, heights, made, s);
+    }
+    if g == 35 {
+        return when(tops, belows, heights, made, s, 3);
+    }
+    when(tops, belows, heights, made, s, 0)
+}
+
+// What an instruction that can fall through brings to the next; 17 where there is none.
+pub fn onward(tops: &[u8; 2048], belows: &[u16; 2048], heights: &[u8; 2048], found: &mut [u16; 1024], size: usize, next: usize, s: usize) -> u8
+    requires { ⌜ size ≤ 1024 ⌝ ∗ ⌜ s < 2048 ⌝ }
+    ensures { λ r. ⌜ ((k : ℕ) (F : Shapes) (S : Shape) → Fine (pool (now (tops .entry)) (now (belows .entry)) (now (heights .entry)) k) → Kept (pool (now (tops .entry)) (now (belows .entry)) (now (heights .entry)) k) size F (now (found .entry)) → Shows (pool (now (tops .entry)) (now (belows .entry)) (now (heights .entry)) k) S s → Went (pool (now (tops .entry)) (now (belows .entry)) (now (heights .entry)) k) size r (now (found .exit)) (goesOn size F true next [] S)) ⌝ }
+{
+    if size <= next {
+        return 17;
+    }
+    if meets(tops, belows, heights, found, next, s) {
+        return 0;
+    }
+    16
+}
+
+// What a visit leaves: a fault or 0, and how many shapes are made.
+pub struct Visited {
+    pub fault: u8,
+    pub made: usize,
+}
+
+// A branch: its target, its effect, then the arrivals at the next instruction and at the target.
+pub fn visit_branch(starts: &[u8; 1024], tops: &[u8; 2048], belows: &[u16; 2048], heights: &[u8; 2048], found: &mut [u16; 1024], made: usize, size: usize, s: usize, g: u8, op: usize, next: usize, d: u64) -> u8
+    requires { ⌜ size ≤ 1024 ⌝ ∗ ⌜ made < 2048 ⌝ ∗ ⌜ s < 2048 ⌝ }
+    ensures { λ r. ⌜ ((all : List (Site Ins)) (F : Shapes) (S : Shape) → Starts all size (now (starts .entry)) → Fine (pool (now (tops .entry)) (now (belows .entry)) (now (heights .entry)) made) → Kept (pool (now (tops .entry)) (now (belows .entry)) (now (heights .entry)) made) size F (now (found .entry)) → Shows (pool (now (tops .entry)) (now (belows .entry)) (now (heights .entry)) made) S s → WentBy (pool (now (tops .entry)) (now (belows .entry)) (now (heights .entry)) made) size r (now (found .exit)) (jumped size F (jumpBy g) next S) (landing all size (targetBy op next d))) ⌝ }
+{
+    let t = lands(starts, size, op, next, d);
+    if 1024 <= t {
+        return 12;
+    }
+    let a = branch(tops, belows, heights, made, s, g);
+    if a.fault != 0 {
+        return a.fault;
+    }
+    if g == 33 {
+        return arrives(tops, belows, heights, found, t, a.shape, 0);
+    }
+    if size <= next {
+        return arrives(tops, belows, heights, found, t, a.shape, 17);
+    }
+    if meets(tops, belows, heights, found, next, a.shape) {
+        return arrives(tops, belows, heights, found, t, a.shape, 0);
+    }
+    16
+}
+
+// 16 where the shape found is another, else what follows.
+fn arrives(tops: &[u8; 2048], belows: &[u16; 2048], heights: &[u8; 2048], found: &mut [u16; 1024], o: usize, s: usize, after: u8) -> u8
+    requires { ⌜ o < 1024 ⌝ ∗ ⌜ s < 2048 ⌝ }
+    ensures { λ r. ⌜ ((k n : ℕ) (F : Shapes) (S : Shape) → Fine (pool (now (tops .entry)) (now (belows .entry)) (now (heights .entry)) k) → Kept (pool (now (tops .entry)) (now (belows .entry)) (now (heights .entry)) k) n F (now (found .entry)) → o < n → n ≤ 1024 → Shows (pool (now (tops .entry)) (now (belows .entry)) (now (heights .entry)) k) S s → WentOn (pool (now (tops .entry)) (now (belows .entry)) (now (heights .entry)) k) n r (now (found .exit)) after (meet F o S (getD F o none))) ⌝ }
+{
+    if meets(tops, belows, heights, found, o, s) {
+        return after;
+    }
+    16
+}
+
+// The shape at an instruction, empty where none comes.
+pub fn shape_at(found: &mut [u16; 1024], o: usize) -> usize
+    requires { ⌜ o < 1024 ⌝ }
+    ensures { λ r. ⌜ r < 2048 ⌝ ∗ ⌜ ((Q : Pool) (n : ℕ) (F : Shapes) → Fine Q → Kept Q n F (now (found .entry)) → o < n → n ≤ 1024 → Shows Q (shapeAt F o) r × Kept Q n (set F o (some (shapeAt F o))) (now (found .exit))) ⌝ }
+{
+    let f = (found[o] % 2048) as usize;
+    if f == 0 {
+        found[o] = 1;
+        return 1;
+    }
+    f
+}
