@@ -118,7 +118,7 @@ unfolding fieldOf
 field-same M s f t e =
     then-same (rowOf 4 t) (λ r. andThen (row (M .fields) r) (λ d. onlyIf (pick s (d .isStatic) (not (d .isStatic))) (some (f r d)))) (λ r. andThen (row (M .fields) r) (λ d. onlyIf (pick s (d .isStatic) (not (d .isStatic))) (some (f r d))))
     (λ r. then-same (row (M .fields) r) (λ d. onlyIf (pick s (d .isStatic) (not (d .isStatic))) (some (f r d))) (λ d. onlyIf (pick s (d .isStatic) (not (d .isStatic))) (some (f r d)))
-      (λ d. only-same (pick s (d .isStatic) (not (d .isStatic))) (f r d) (f r d) (e r d)))
+    (λ d. only-same (pick s (d .isStatic) (not (d .isStatic))) (f r d) (f r d) (e r d)))
 
 pub operands-for : (M : Module) (m : Method) (i : Ins) → operands M m (insFor i) ≡ mapOption actFor (operands M m i)
 unfolding operands insFor actFor mapOption
@@ -309,13 +309,247 @@ in-group n next (k ∷ ks) a b t = by (eqb (k .opcode) b) refl t (in-group n nex
 
 kept-groups : (n next : ℕ) → AllGrouped n next instructions
 unfolding AllGrouped Grouped instructions loads branches operators objects _is_ op un const i4-s i4 i8 r8 withOperand insFor plainFor binaryFor relationFor jumpFor insBy plainBy callBy fieldBy jumpBy targetBy inOpcode groups pick unaryBy
-kept-groups n next =
-    (refl, (refl, (refl, (refl, (refl, (refl, (refl, (refl, (refl, (refl, (refl, (refl, (refl, (refl, (refl, (refl,
-    (refl, (refl, (refl, (refl, (refl, (refl, (refl, (refl, (refl, (refl, (refl, (refl, (refl, (refl, (refl, (refl,
-    (refl, (refl, (refl, (refl, (refl, (refl, (refl, (refl, (refl, (refl, (refl, (refl, (refl, (refl, (refl, (refl,
-    (refl, (refl, (refl, (refl, (refl, (refl, (refl, (refl, (refl, (refl, (refl, (refl, (refl, (refl, (refl, (refl,
-    (refl, (refl, (refl, (refl, (refl, (refl, (refl, (refl, (refl, (refl, (refl, (refl, (refl, (refl, (refl, (refl,
-    (refl, (refl, (refl, (refl, (refl, (refl, (refl, (refl, (refl, (refl, (refl, (refl, tt))))))))))))))))))))))))))))))))))))))))))))))))))))))))))))))))))))))))))))))))))))))))))))
+kept-groups n next = (
+  refl,
+  (
+    refl,
+    (
+      refl,
+      (
+        refl,
+        (
+          refl,
+          (
+            refl,
+            (
+              refl,
+              (
+                refl,
+                (
+                  refl,
+                  (
+                    refl,
+                    (
+                      refl,
+                      (
+                        refl,
+                        (
+                          refl,
+                          (
+                            refl,
+                            (
+                              refl,
+                              (
+                                refl,
+                                (
+                                  refl,
+                                  (
+                                    refl,
+                                    (
+                                      refl,
+                                      (
+                                        refl,
+                                        (
+                                          refl,
+                                          (
+                                            refl,
+                                            (
+                                              refl,
+                                              (
+                                                refl,
+                                                (
+                                                  refl,
+                                                  (
+                                                    refl,
+                                                    (
+                                                      refl,
+                                                      (
+                                                        refl,
+                                                        (
+                                                          refl,
+                                                          (
+                                                            refl,
+                                                            (
+                                                              refl,
+                                                              (
+                                                                refl,
+                                                                (
+                                                                  refl,
+                                                                  (
+                                                                    refl,
+                                                                    (
+                                                                      refl,
+                                                                      (
+                                                                        refl,
+                                                                        (
+                                                                          refl,
+                                                                          (
+                                                                            refl,
+                                                                            (
+                                                                              refl,
+                                                                              (
+                                                                                refl,
+                                                                                (
+                                                                                  refl,
+                                                                                  (
+                                                                                    refl,
+                                                                                    (
+                                                                                      refl,
+                                                                                      (
+                                                                                        refl,
+                                                                                        (
+                                                                                          refl,
+                                                                                          (
+                                                                                            refl,
+                                                                                            (
+                                                                                              refl,
+                                                                                              (
+                                                                                                refl,
+                                                                                                (
+                                                                                                  refl,
+                                                                                                  (
+                                                                                                    refl,
+                                                                                                    (
+                                                                                                      refl,
+                                                                                                      (
+                                                                                                        refl,
+                                                                                                        (
+                                                                                                          refl,
+                                                                                                          (
+                                                                                                            refl,
+                                                                                                            (
+                                                                                                              refl,
+                                                                                                              (
+                                                                                                                refl,
+                                                                                                                (
+                                                                                                                  refl,
+                                                                                                                  (
+                                                                                                                    refl,
+                                                                                                                    (
+                                                                                                                      refl,
+                                                                                                                      (
+                                                                                                                        refl,
+                                                                                                                        (
+                                                                                                                          refl,
+                                                                                                                          (
+                                                                                                                            refl,
+                                                                                                                            (
+                                                                                                                              refl,
+                                                                                                                              (
+                                                                                                                                refl,
+                                                                                                                                (
+                                                                                                                                  refl,
+                                                                                                                                  (
+                                                                                                                                    refl,
+                                                                                                                                    (
+                                                                                                                                      refl,
+                                                                                                                                      (
+                                                                                                                                        refl,
+                                                                                                                                        (
+                                                                                                                                          refl,
+                                                                                                                                          (
+                                                                                                                                            refl,
+                                                                                                                                            (
+                                                                                                                                              refl,
+                                                                                                                                              (
+                                                                                                                                                refl,
+                                                                                                                                                (
+                                                                                                                                                  refl,
+                                                                                                                                                  (
+                                                                                                                                                    refl,
+                                                                                                                                                    (
+                                                                                                                                                      refl,
+                                                                                                                                                      (
+                                                                                                                                                        refl,
+                                                                                                                                                        (
+                                                                                                                                                          refl,
+                                                                                                                                                          (
+                                                                                                                                                            refl,
+                                                                                                                                                            (
+                                                                                                                                                              refl,
+                                                                                                                                                              (
+                                                                                                                                                                refl,
+                                                                                                                                                                (refl, (refl, (refl, (refl, (refl, (refl, (refl, (refl, (refl, (refl, (refl, (refl, tt)))))))))))),
+                                                                                                                                                              ),
+                                                                                                                                                            ),
+                                                                                                                                                          ),
+                                                                                                                                                        ),
+                                                                                                                                                      ),
+                                                                                                                                                    ),
+                                                                                                                                                  ),
+                                                                                                                                                ),
+                                                                                                                                              ),
+                                                                                                                                            ),
+                                                                                                                                          ),
+                                                                                                                                        ),
+                                                                                                                                      ),
+                                                                                                                                    ),
+                                                                                                                                  ),
+                                                                                                                                ),
+                                                                                                                              ),
+                                                                                                                            ),
+                                                                                                                          ),
+                                                                                                                        ),
+                                                                                                                      ),
+                                                                                                                    ),
+                                                                                                                  ),
+                                                                                                                ),
+                                                                                                              ),
+                                                                                                            ),
+                                                                                                          ),
+                                                                                                        ),
+                                                                                                      ),
+                                                                                                    ),
+                                                                                                  ),
+                                                                                                ),
+                                                                                              ),
+                                                                                            ),
+                                                                                          ),
+                                                                                        ),
+                                                                                      ),
+                                                                                    ),
+                                                                                  ),
+                                                                                ),
+                                                                              ),
+                                                                            ),
+                                                                          ),
+                                                                        ),
+                                                                      ),
+                                                                    ),
+                                                                  ),
+                                                                ),
+                                                              ),
+                                                            ),
+                                                          ),
+                                                        ),
+                                                      ),
+                                                    ),
+                                                  ),
+                                                ),
+                                              ),
+                                            ),
+                                          ),
+                                        ),
+                                      ),
+                                    ),
+                                  ),
+                                ),
+                              ),
+                            ),
+                          ),
+                        ),
+                      ),
+                    ),
+                  ),
+                ),
+              ),
+            ),
+          ),
+        ),
+      ),
+    ),
+  ),
+)
 
 -- the rest of the table
 rest-right : ℕ → Bool
@@ -353,10 +587,13 @@ group-law i = by (ltb (i .op) 256) refl
   where
     o : ℕ
     o = i .op
+
     n : ℕ
     n = i .operand
+
     x : ℕ
     x = i .next
+
     far : (d : ℕ) → o ≡ 0xFE00 + d → insFor (insOfForm n x (formOf afterFE d)) ≡ insBy (pick (eqb o 0xFE01) 18 (pick (ltb o 0xFE02) 0 (pick (ltb o 0xFE06) 24 0))) o n x
     far zero e = rw e refl
     far (suc zero) e = rw e refl
@@ -365,10 +602,17 @@ group-law i = by (ltb (i .op) 256) refl
     far (suc (suc (suc (suc zero)))) e = rw e refl
     far (suc (suc (suc (suc (suc zero))))) e = rw e refl
     far (suc (suc (suc (suc (suc (suc d)))))) e =
-        rw (ne-eqb 1 (suc (suc (suc (suc (suc (suc d)))))) (λ z. absurd (omega arith)), ne-eqb 2 (suc (suc (suc (suc (suc (suc d)))))) (λ z. absurd (omega arith)),
-          ne-eqb 3 (suc (suc (suc (suc (suc (suc d)))))) (λ z. absurd (omega arith)), ne-eqb 4 (suc (suc (suc (suc (suc (suc d)))))) (λ z. absurd (omega arith)),
+        rw (
+          ne-eqb 1 (suc (suc (suc (suc (suc (suc d)))))) (λ z. absurd (omega arith)),
+          ne-eqb 2 (suc (suc (suc (suc (suc (suc d)))))) (λ z. absurd (omega arith)),
+          ne-eqb 3 (suc (suc (suc (suc (suc (suc d)))))) (λ z. absurd (omega arith)),
+          ne-eqb 4 (suc (suc (suc (suc (suc (suc d)))))) (λ z. absurd (omega arith)),
           ne-eqb 5 (suc (suc (suc (suc (suc (suc d)))))) (λ z. absurd (omega arith)),
-          ne-eqb o 0xFE01 (λ z. absurd (omega arith)), le-ltb o 0xFE02 (omega arith), le-ltb o 0xFE06 (omega arith)) refl
+          ne-eqb o 0xFE01 (λ z. absurd (omega arith)),
+          le-ltb o 0xFE02 (omega arith),
+          le-ltb o 0xFE06 (omega arith),
+        ) refl
+
     above : (c : Bool) → ltb o 0xFE00 ≡ c → 256 ≤ o → insFor (insOfForm n x (pick c (formOf instructions o) (formOf afterFE (o - 0xFE00)))) ≡ insBy (pick (eqb o 0xFE01) 18 (pick (ltb o 0xFE02) 0 (pick (ltb o 0xFE06) 24 0))) o n x
     above true e h =
         let l : o < 0xFE00 = ltb-true o 0xFE00 e in
@@ -376,6 +620,7 @@ group-law i = by (ltb (i .op) 256) refl
     above false e h =
         let l : 0xFE00 ≤ o = ltb-false o 0xFE00 e in
         far (o - 0xFE00) (omega arith)
+
     by : (c : Bool) → ltb o 256 ≡ c → insFor (insOfForm n x (pick (ltb o 0xFE00) (formOf instructions o) (formOf afterFE (o - 0xFE00)))) ≡ insBy (pick c (getD groups o 0) (pick (eqb o 0xFE01) 18 (pick (ltb o 0xFE02) 0 (pick (ltb o 0xFE06) 24 0)))) o n x
     by true e =
         let l : o < 256 = ltb-true o 256 e in

@@ -36,8 +36,9 @@ stands-set P n F l o v S k h b w =
       size = length-set F o (some S) ∙ k .size;
       array = length-set l o v ∙ k .array;
       at = λ i i<n. by-offset (λ (j : ℕ). Stands P (getD (set l o v) j 0) (getD (set F o (some S)) j none)) o i
-        (λ e. rw (e, getD-set-same l o v 0 g, getD-set-same F o (some S) none f) w)
-        (λ e. rw (getD-set-other l o i v 0 e, getD-set-other F o i (some S) none e) (k .at i i<n)) }
+          (λ e. rw (e, getD-set-same l o v 0 g, getD-set-same F o (some S) none f) w)
+          (λ e. rw (getD-set-other l o i v 0 e, getD-set-other F o i (some S) none e) (k .at i i<n));
+    }
 
 -- the same shape set again
 stands-again : (P : Pool) (n : ℕ) (F : Shapes) (l : List ℕ) (o : ℕ) (S : Shape) → Kept P n F l → o < n → getD F o none ≡ some S → Kept P n (set F o (some S)) l
@@ -48,8 +49,9 @@ stands-again P n F l o S k h e =
       size = length-set F o (some S) ∙ k .size;
       array = k .array;
       at = λ i i<n. by-offset (λ (j : ℕ). Stands P (getD l j 0) (getD (set F o (some S)) j none)) o i
-        (λ q. rw (q, getD-set-same F o (some S) none f) (subst (λ (x : Option Shape). Stands P (getD l o 0) x) e (k .at o h)))
-        (λ q. rw (getD-set-other F o i (some S) none q) (k .at i i<n)) }
+          (λ q. rw (q, getD-set-same F o (some S) none f) (subst (λ (x : Option Shape). Stands P (getD l o 0) x) e (k .at o h)))
+          (λ q. rw (getD-set-other F o i (some S) none q) (k .at i i<n));
+    }
 
 -- the shapes stand when more are made
 pub kept-later : (P Q : Pool) (n : ℕ) (F : Shapes) (l : List ℕ) → Fine P → Grown P Q → Kept P n F l → Kept Q n F l

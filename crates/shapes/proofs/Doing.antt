@@ -407,7 +407,8 @@ calling P M m ts o S n h v r e q z l g =
     record {
       enough = omega arith;
       fit = rw e (sym (p .0));
-      shows = λ y. subst (λ (k : ℕ). Shows P (drop k S) (r .rest)) (sym e) (p .1 (sym (p .0) ∙ y)) }
+      shows = λ y. subst (λ (k : ℕ). Shows P (drop k S) (r .rest)) (sym e) (p .1 (sym (p .0) ∙ y));
+    }
 
 pub call-few-by : (M : Module) (m : Method) (ts : List Ty) (o : Option Ty) (S : Shape) (n h v : ℕ) → length ts ≡ n → h ≡ length S → v ≡ h → v < n → calledEffect M m ts o S ≡ bad 13
 call-few-by M m ts o S n h v e q z l = call-few M m ts o S (omega arith)

@@ -106,9 +106,10 @@ scanning-next code l n at d h k b e s =
     record {
       read = s .read ++ (site at d ∷ []);
       is = s .is ∙ (ap (onto (s .read)) (ap (λ (f : ℕ). decodeFrom f code at) (left-one n (length code) h) ∙ decode-more (length code - (n + 1)) code at d k e)
-        ∙ onto-onto (s .read) (site at d) (decodeFrom (length code - (n + 1)) code (d .next)));
+          ∙ onto-onto (s .read) (site at d) (decodeFrom (length code - (n + 1)) code (d .next)));
       marks = λ o i. rw (starts-snoc (s .read) (site at d) o) (by o i (eqb at o) refl g);
-      size = length-set l at 1 ∙ s .size }
+      size = length-set l at 1 ∙ s .size;
+    }
   where
     by : (o : ℕ) → o < length code → (c : Bool) → eqb at o ≡ c → at < length l → getD (set l at 1) o 0 ≡ flag (starts (s .read) o || c)
     by o i true q g = let z : at ≡ o = eqb-true at o q in subst (λ (x : ℕ). getD (set l at 1) x 0 ≡ flag (starts (s .read) o || true)) z (getD-set-same l at 1 0 g ∙ sym (or-flag (starts (s .read) o)))
@@ -187,16 +188,19 @@ module _ (M : Module) (m : Method) (all l : List (Site Ins)) (code : List ℕ) (
       where
         d : Decoded
         d = record { ins = insOf i; next = i .next }
+
         more : (A : Answer Refusal (List (Site Act))) (a b x y : ℕ) (c : Site Act) → Late a b x y A → Late a b x y (A >>= λ j. ok (c ∷ j))
         more (bad f) a b x y c h = h
         more (ok j) a b x y c h = h
+
         go : (o : Option Act) → actOf M m all (insOf i) ≡ o → isNone o ≡ false → Searching M m all l code (n + 1) (i .next)
         go none p r = let z : _≡_ {A = ℕ} 0 1 = cc in absurd (omega arith)
         go (some c) p r =
             record {
               left = the-next d e .rest;
               is = the-next d e .left;
-              back = λ a b x y w. s .back a b x y (rw (the-next d e .is, finds-some M m all (site at d) (the-next d e .rest) c p) (more (findOperands M m all (the-next d e .rest)) a b x y (record { offset = at; what = c; next = i .next }) w)) }
+              back = λ a b x y w. s .back a b x y (rw (the-next d e .is, finds-some M m all (site at d) (the-next d e .rest) c p) (more (findOperands M m all (the-next d e .rest)) a b x y (record { offset = at; what = c; next = i .next }) w));
+            }
 
 -- ---- Operands and shapes
 
@@ -298,8 +302,13 @@ module _ (M : Module) (m : Method) (all : List (Site Ins)) (code : List ℕ) (P 
       going-next q =
           let w = went-zero Q (length code) r l (λ a. visit M m (s .shapes) (record { offset = at; what = a; next = i .next })) (actOf M m all (insOf i)) (told .0) q in
           record {
-            shapes = w .shapes; left = after .rest; fine = told .1; kept = w .kept; is = after .left;
-            same = s .same ∙ (ap (λ (y : List (Site Ins)). onward M m all y (s .shapes)) (after .is) ∙ pass-on M m all (site at (record { ins = insOf i; next = i .next })) (after .rest) (s .shapes) (w .shapes) (w .what) (w .is) (w .answer)) }
+            shapes = w .shapes;
+            left = after .rest;
+            fine = told .1;
+            kept = w .kept;
+            is = after .left;
+            same = s .same ∙ (ap (λ (y : List (Site Ins)). onward M m all y (s .shapes)) (after .is) ∙ pass-on M m all (site at (record { ins = insOf i; next = i .next })) (after .rest) (s .shapes) (w .shapes) (w .what) (w .is) (w .answer));
+          }
 
       pub going-left : decodeFrom (length code - (n + 1)) code (i .next) ≡ ok (after .rest)
       going-left = after .left
@@ -308,13 +317,15 @@ module _ (M : Module) (m : Method) (all : List (Site Ins)) (code : List ℕ) (P 
       pub going-fault : (a b : ℕ) → (r ≡ 0 → ⊥) → (r ≡ 12 → ⊥) → Late a b r at (findOperands M m all (after .rest)) → Tells a b (onward M m all all (nothing (length code))) × (a ≡ 0 → ⊥)
       unfolding Tells Late site _>>=_
       going-fault a b z y w =
-          let f = went-fault Q (length code) r l (λ a. visit M m (s .shapes) (record { offset = at; what = a; next = i .next })) (actOf M m all (insOf i)) (told .0) z y in
-          (rw (s .same, after .is, pass-fault M m all (site at (record { ins = insOf i; next = i .next })) (after .rest) (s .shapes) (f .what) r (f .is) (f .answer)) (by (findOperands M m all (after .rest)) (f .high) (f .low) w),
-           not-zero (findOperands M m all (after .rest)) (f .high) w)
+          let f = went-fault Q (length code) r l (λ a. visit M m (s .shapes) (record { offset = at; what = a; next = i .next })) (actOf M m all (insOf i)) (told .0) z y in (
+            rw (s .same, after .is, pass-fault M m all (site at (record { ins = insOf i; next = i .next })) (after .rest) (s .shapes) (f .what) r (f .is) (f .answer)) (by (findOperands M m all (after .rest)) (f .high) (f .low) w),
+            not-zero (findOperands M m all (after .rest)) (f .high) w,
+          )
         where
           by : (A : Answer Refusal (List (Site Act))) → 12 < r → r < 18 → Late a b r at A → Tells a b (A >>= λ _. bad (refusal at r))
           by (bad g) t v u = let x : a ≡ 12 = u .1 in (u .0, omega arith, omega arith)
           by (ok j) t v u = let x : a ≡ r = u .0 in (rw (u .0, u .1) refl, omega arith, omega arith)
+
           not-zero : (A : Answer Refusal (List (Site Act))) → 12 < r → Late a b r at A → a ≡ 0 → ⊥
           not-zero (bad g) t u q = let x : a ≡ 12 = u .1 in omega arith
           not-zero (ok j) t u q = let x : a ≡ r = u .0 in omega arith

@@ -41,6 +41,7 @@ type-some l from ts i r h t e b = by (at ts i) refl (there ts i h)
     there [] i h e = omega arith
     there (t ∷ ts) zero h e = let z : _≡_ {A = ℕ} 0 1 = cc in omega arith
     there (t ∷ ts) (suc i) h e = there ts i (omega arith) e
+
     by : (o : Option Ty) → at ts i ≡ o → (o ≡ none → ⊥) → Typed r o
     by none q n = absurd (n refl)
     by (some u) q n = (sym (e ∙ t i u q), b)
@@ -137,6 +138,7 @@ class-is M t = by (rowOf 2 t)
     in-row : (r : ℕ) (o : Option ℕ) → mapOption (λ p. r) o ≡ andThen o (λ p. some r)
     in-row r none = refl
     in-row r (some p) = refl
+
     by : (o : Option ℕ) → andThen o (λ r. mapOption (λ p. r) (row (M .parents) r)) ≡ andThen o (λ r. andThen (row (M .parents) r) (λ p. some r))
     by none = refl
     by (some r) = in-row r (row (M .parents) r)
@@ -192,7 +194,7 @@ unfolding fieldOf andThen
 field-at M s f t x d e q = rw (e, q) refl
 
 module _ (M : Module) (n : ℕ) (owners flags types : List ℕ) (H : HeldFields M n owners flags types) (s : Bool) (f : ℕ → Field → Act) (t r x : ℕ)
-  (among : x ≡ rowAmong n (rowOf 4 t)) (said : r ≡ pick (eqb (getD flags x 0) (flag s)) x 0) where
+    (among : x ≡ rowAmong n (rowOf 4 t)) (said : r ≡ pick (eqb (getD flags x 0) (flag s)) x 0) where
   one-field : (x ≡ 0 → ⊥) → Among (M .fields) n (rowOf 4 t)
   one-field h = one-among (M .fields) n (rowOf 4 t) (H .count) (λ e. h (among ∙ e))
 
@@ -218,7 +220,8 @@ module _ (M : Module) (n : ℕ) (owners flags types : List ℕ) (H : HeldFields 
       record {
         field = one-field h .what;
         is = ap (row (M .fields)) (p .1 ∙ among) ∙ one-field h .is;
-        found = here h ∙ (ap (λ (b : Bool). onlyIf b (some (f x (one-field h .what)))) (p .0) ∙ ap (λ (k : ℕ). some (f k (one-field h .what))) (sym (p .1))) }
+        found = here h ∙ (ap (λ (b : Bool). onlyIf b (some (f x (one-field h .what)))) (p .0) ∙ ap (λ (k : ℕ). some (f k (one-field h .what))) (sym (p .1)));
+      }
 
 -- ---- Methods
 
@@ -247,7 +250,7 @@ unfolding methodOf andThen
 method-at M p f t x k e q = rw (e, q) refl
 
 module _ (M : Module) (m : Method) (n : ℕ) (owners sorts returns counts types : List ℕ) (H : HeldMethods M n owners sorts returns counts types) (w t r x : ℕ)
-  (among : x ≡ rowAmong n (rowOf 6 t)) (zeroed : x ≡ 0 → r ≡ 0) (said : (s : Sort) → sortByte s ≡ getD sorts x 0 → r ≡ pick (mayCall w s) x 0) where
+    (among : x ≡ rowAmong n (rowOf 6 t)) (zeroed : x ≡ 0 → r ≡ 0) (said : (s : Sort) → sortByte s ≡ getD sorts x 0 → r ≡ pick (mayCall w s) x 0) where
   one-method : (x ≡ 0 → ⊥) → Among (M .methods) n (rowOf 6 t)
   one-method h = one-among (M .methods) n (rowOf 6 t) (H .count) (λ e. h (among ∙ e))
 
@@ -272,7 +275,8 @@ module _ (M : Module) (m : Method) (n : ℕ) (owners sorts returns counts types 
         method = one-method h .what;
         is = ap (row (M .methods)) (p .1 ∙ among) ∙ one-method h .is;
         may = p .0;
-        found = there h ∙ (ap (λ (b : Bool). onlyIf b (some (actBy w x (one-method h .what)))) (p .0) ∙ ap (λ (k : ℕ). some (actBy w k (one-method h .what))) (sym (p .1))) }
+        found = there h ∙ (ap (λ (b : Bool). onlyIf b (some (actBy w x (one-method h .what)))) (p .0) ∙ ap (λ (k : ℕ). some (actBy w k (one-method h .what))) (sym (p .1)));
+      }
 
 pub call-effect : (M : Module) (m : Method) (w r : ℕ) (k : Method) (S : Shape) → (w ≡ 2 → ⊥) → w < 3 → effect M m (actBy w r k) S ≡ calledEffect M m (arguments k) (k .returns) S
 unfolding actBy pick effect callEffect calledEffect due

@@ -90,6 +90,7 @@ module _ (M : Module) (m : Method) (all : List (Site Ins)) (s : Site Ins) (l : L
       test : (b : Bool) (a : Act) → onlyIf b (some a) ≡ none → (guard b (refusal (s .offset) 12) >>= λ _. findOperands M m all l >>= λ k. ok (record { offset = s .offset; what = a; next = s .next } ∷ k)) ≡ bad (refusal (s .offset) 12)
       test true a e = let z : _≡_ {A = ℕ} 0 1 = cc in absurd (omega arith)
       test false a e = refl
+
       by : (o : Option Act) → andThen o (λ a. onlyIf (allStart all (targets a)) (some a)) ≡ none
           → (need o (refusal (s .offset) 12) >>= λ a. guard (allStart all (targets a)) (refusal (s .offset) 12) >>= λ _. findOperands M m all l >>= λ k. ok (record { offset = s .offset; what = a; next = s .next } ∷ k)) ≡ bad (refusal (s .offset) 12)
       by none e = refl
@@ -102,6 +103,7 @@ module _ (M : Module) (m : Method) (all : List (Site Ins)) (s : Site Ins) (l : L
       test : (b : Bool) (c : Act) → onlyIf b (some c) ≡ some a → (guard b (refusal (s .offset) 12) >>= λ _. findOperands M m all l >>= λ k. ok (record { offset = s .offset; what = c; next = s .next } ∷ k)) ≡ (findOperands M m all l >>= λ k. ok (record { offset = s .offset; what = a; next = s .next } ∷ k))
       test true c e = let z : c ≡ a = cc in rw z refl
       test false c e = let z : _≡_ {A = ℕ} 0 1 = cc in absurd (omega arith)
+
       by : (o : Option Act) → andThen o (λ a. onlyIf (allStart all (targets a)) (some a)) ≡ some a
           → (need o (refusal (s .offset) 12) >>= λ c. guard (allStart all (targets c)) (refusal (s .offset) 12) >>= λ _. findOperands M m all l >>= λ k. ok (record { offset = s .offset; what = c; next = s .next } ∷ k)) ≡ (findOperands M m all l >>= λ k. ok (record { offset = s .offset; what = a; next = s .next } ∷ k))
       by none e = let z : _≡_ {A = ℕ} 0 1 = cc in absurd (omega arith)

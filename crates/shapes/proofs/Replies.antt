@@ -63,10 +63,10 @@ module _ (P : Pool) (C : Shape → Type 0) (s : ℕ) where
   -- two at least
   pub two-there : Fine P → 2 ≤ getD (P .heights) s 0
       → ((t u : Ty) (S : Shape) → byteOf t ≡ getD (P .tops) s 0 → getD (P .heights) s 0 ≡ suc (suc (length S))
-        → ((b : ℕ) → b ≡ getD (P .belows) s 0 % 2048 → Shows P (u ∷ S) b)
-        → ((b : ℕ) → b ≡ getD (P .belows) s 0 % 2048 → byteOf u ≡ getD (P .tops) b 0)
-        → ((b d : ℕ) → b ≡ getD (P .belows) s 0 % 2048 → d ≡ getD (P .belows) b 0 % 2048 → Shows P S d)
-        → C (t ∷ u ∷ S))
+      → ((b : ℕ) → b ≡ getD (P .belows) s 0 % 2048 → Shows P (u ∷ S) b)
+      → ((b : ℕ) → b ≡ getD (P .belows) s 0 % 2048 → byteOf u ≡ getD (P .tops) b 0)
+      → ((b d : ℕ) → b ≡ getD (P .belows) s 0 % 2048 → d ≡ getD (P .belows) b 0 % 2048 → Shows P S d)
+      → C (t ∷ u ∷ S))
       → (S : Shape) → Shows P S s → C S
   two-there f l y [] w = let h : getD (P .heights) s 0 ≡ 0 = height P [] s w in absurd (omega arith)
   two-there f l y (t ∷ []) w = let h : getD (P .heights) s 0 ≡ 1 = height P (t ∷ []) s w in absurd (omega arith)

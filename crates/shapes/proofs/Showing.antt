@@ -40,9 +40,10 @@ later P Q [] n f g h =
     (h .0, g .heights n u ∙ h .1)
 later P Q (t ∷ S) n f g h =
     let u : n < P .made = h .0 .used in
-    let m : P .made ≤ Q .made = g .more in
-    (record { after = h .0 .after; used = omega arith; type = g .tops n u ∙ h .0 .type; height = g .heights n u ∙ h .0 .height },
-     subst (λ (k : ℕ). Shows Q S k) (sym (g .belows n u)) (later P Q S (getD (P .belows) n 0) f g (h .1)))
+    let m : P .made ≤ Q .made = g .more in (
+      record { after = h .0 .after; used = omega arith; type = g .tops n u ∙ h .0 .type; height = g .heights n u ∙ h .0 .height },
+      subst (λ (k : ℕ). Shows Q S k) (sym (g .belows n u)) (later P Q S (getD (P .belows) n 0) f g (h .1)),
+    )
 
 pub same-grown : (P : Pool) → Fine P → Grown P P
 same-grown P f = record { fine = f; more = omega arith; tops = λ n h. refl; belows = λ n h. refl; heights = λ n h. refl }
@@ -91,11 +92,13 @@ module _ (P : Pool) (t s h : ℕ) (room : P .made < 2048) (f : Fine P) where
           heights = length-set (P .heights) (P .made) h ∙ f .heights;
           some = omega arith;
           few = omega arith;
-          empty = getD-set-other (P .heights) (P .made) 1 h 0 (λ e. omega arith) ∙ f .empty };
+          empty = getD-set-other (P .heights) (P .made) 1 h 0 (λ e. omega arith) ∙ f .empty;
+        };
         more = omega arith;
         tops = λ k l. getD-set-other (P .tops) (P .made) k t 0 (λ e. omega arith);
         belows = λ k l. getD-set-other (P .belows) (P .made) k s 0 (λ e. omega arith);
-        heights = λ k l. getD-set-other (P .heights) (P .made) k h 0 (λ e. omega arith) }
+        heights = λ k l. getD-set-other (P .heights) (P .made) k h 0 (λ e. omega arith);
+      }
 
   pub put-shows : (u : Ty) (S : Shape) → byteOf u ≡ t → h ≡ suc (length S) → Shows P S s → Shows grown (u ∷ S) (P .made)
   unfolding Shows
@@ -103,10 +106,12 @@ module _ (P : Pool) (t s h : ℕ) (room : P .made < 2048) (f : Fine P) where
       let a : P .made < length (P .tops) = rw (f .tops) room in
       let b : P .made < length (P .belows) = rw (f .belows) room in
       let c : P .made < length (P .heights) = rw (f .heights) room in
-      let o : 1 < P .made = f .some in
-      (record {
-        after = o;
-        used = omega arith;
-        type = getD-set-same (P .tops) (P .made) t 0 a ∙ sym e;
-        height = getD-set-same (P .heights) (P .made) h 0 c ∙ l },
-       subst (λ (k : ℕ). Shows grown S k) (sym (getD-set-same (P .belows) (P .made) s 0 b)) (later P grown S s f put-grown w))
+      let o : 1 < P .made = f .some in (
+        record {
+          after = o;
+          used = omega arith;
+          type = getD-set-same (P .tops) (P .made) t 0 a ∙ sym e;
+          height = getD-set-same (P .heights) (P .made) h 0 c ∙ l;
+        },
+        subst (λ (k : ℕ). Shows grown S k) (sym (getD-set-same (P .belows) (P .made) s 0 b)) (later P grown S s f put-grown w),
+      )

@@ -50,6 +50,7 @@ act-for M m all i = rw (operands-for M m i) (by (operands M m i))
     test : (b : Bool) (a : Act) → onlyIf b (some (actFor a)) ≡ mapOption actFor (onlyIf b (some a))
     test true a = refl
     test false a = refl
+
     by : (o : Option Act) → andThen (mapOption actFor o) (λ a. onlyIf (allStart all (targets a)) (some a)) ≡ mapOption actFor (andThen o (λ a. onlyIf (allStart all (targets a)) (some a)))
     by none = refl
     by (some a) = rw (targets-for a) (test (allStart all (targets a)) a)
@@ -63,10 +64,12 @@ went-for P n r l f (some a) e h = subst (λ (A : Answer ℕ Shapes). Went P n r 
 pub by-group : (M : Module) (m : Method) (all : List (Site Ins)) (F : Shapes) (o : ℕ) (i : Insn) (n r : ℕ) (l : List ℕ) (Q : Pool) (g : ℕ) → g ≡ groupOf (i .op)
     → WentBy Q n r l (λ a. visit M m F (here o a (i .next))) (actOf M m all (insBy g (i .op) (i .operand) (i .next))) → Fine Q → Visits M m all F o i n r l Q
 unfolding Visits
-by-group M m all F o i n r l Q g e h f =
-    (went-for Q n r l (λ a. visit M m F (here o a (i .next))) (actOf M m all (insOf i)) (λ a. visit-for M m F o a (i .next))
+by-group M m all F o i n r l Q g e h f = (
+  went-for Q n r l (λ a. visit M m F (here o a (i .next))) (actOf M m all (insOf i)) (λ a. visit-for M m F o a (i .next))
       (subst (λ (x : Option Act). WentBy Q n r l (λ a. visit M m F (here o a (i .next))) x)
-        (ap (actOf M m all) (ap (λ (k : ℕ). insBy k (i .op) (i .operand) (i .next)) e ∙ sym (group-law i)) ∙ act-for M m all (insOf i)) h), f)
+      (ap (actOf M m all) (ap (λ (k : ℕ). insBy k (i .op) (i .operand) (i .next)) e ∙ sym (group-law i)) ∙ act-for M m all (insOf i)) h),
+  f,
+)
 
 none-for : (o : Option Act) → isNone (mapOption actFor o) ≡ isNone o
 unfolding isNone mapOption
@@ -93,6 +96,7 @@ jump-acts M m all j t n e = rw (← e) (by t)
     test true true o q = rw (← q) refl
     test true false o q = rw (← q) refl
     test false b o q = refl
+
     by : (t : Option ℕ) → andThen (andThen t (λ o. onlyIf (ltb o (length (m .code))) (some (Act.jump j o)))) (λ a. onlyIf (allStart all (targets a)) (some a)) ≡ mapOption (Act.jump j) (andThen t (λ o. onlyIf (ltb o (length (m .code))) (onlyIf (starts all o) (some o))))
     by none = refl
     by (some o) = test (ltb o (length (m .code))) (starts all o) o refl
@@ -111,9 +115,9 @@ pub branch-visit : (M : Module) (m : Method) (all : List (Site Ins)) (F : Shapes
 branch-visit M m all F o i n r l Q g e h z w f =
     by-group M m all F o i n r l Q g e
     (subst (λ (x : Option Act). WentBy Q n r l (λ a. visit M m F (here o a (i .next))) x)
-      (sym (ap (actOf M m all) (ins-jump g (i .op) (i .operand) (i .next) h) ∙ jump-acts M m all (jumpBy g) (targetBy (i .op) (i .next) (i .operand)) n z))
-      (went-map Q n r l (jumped n (marked F o) (jumpBy g) (i .next) (shapeAt F o)) (Act.jump (jumpBy g)) (λ a. visit M m F (here o a (i .next))) (landing all n (targetBy (i .op) (i .next) (i .operand)))
-        (λ t. visit-jump M m F o (i .next) n (jumpBy g) t z) w)) f
+    (sym (ap (actOf M m all) (ins-jump g (i .op) (i .operand) (i .next) h) ∙ jump-acts M m all (jumpBy g) (targetBy (i .op) (i .next) (i .operand)) n z))
+    (went-map Q n r l (jumped n (marked F o) (jumpBy g) (i .next) (shapeAt F o)) (Act.jump (jumpBy g)) (λ a. visit M m F (here o a (i .next))) (landing all n (targetBy (i .op) (i .next) (i .operand)))
+    (λ t. visit-jump M m F o (i .next) n (jumpBy g) t z) w)) f
 
 lands-none : (n r : ℕ) (o : Option ℕ) (j : Jump) → Lands n r o → n ≤ 1024 → leb 1024 r ≡ isNone (mapOption (Act.jump j) o)
 unfolding Lands isNone mapOption
@@ -269,13 +273,13 @@ unfolding insBy pick
 still g op n x y h = rw (lt-ltb g 33 h) refl
 
 module _ (M : Module) (m : Method) (all : List (Site Ins)) (F : Shapes) (o : ℕ) (i : Insn) (n : ℕ) (l : List ℕ) (Q : Pool) (g : ℕ) (r : After)
-  (e : g ≡ groupOf (i .op)) (h : g < 33) (z : length (m .code) ≡ n) (f : Fine Q)
-  (t : Takes Q r (λ a. effect M m a (shapeAt F o)) (operands M m (insBy g (i .op) (i .operand) 0))) where
+    (e : g ≡ groupOf (i .op)) (h : g < 33) (z : length (m .code) ≡ n) (f : Fine Q)
+    (t : Takes Q r (λ a. effect M m a (shapeAt F o)) (operands M m (insBy g (i .op) (i .operand) 0))) where
   by-operands : (v : ℕ) (b : Bool) → Calm b (insBy g (i .op) (i .operand) 0) → WentBy Q n v l (λ a. visit M m F (here o a (i .next))) (operands M m (insBy g (i .op) (i .operand) 0)) → Visits M m all F o i n v l Q
   by-operands v b c w =
       by-group M m all F o i n v l Q g e
       (subst (λ (x : Option Act). WentBy Q n v l (λ a. visit M m F (here o a (i .next))) x)
-        (sym (ap (actOf M m all) (still g (i .op) (i .operand) (i .next) 0 h) ∙ quiet-acts M m all b (insBy g (i .op) (i .operand) 0) (calm-quiet M m b (insBy g (i .op) (i .operand) 0) c))) w) f
+      (sym (ap (actOf M m all) (still g (i .op) (i .operand) (i .next) 0 h) ∙ quiet-acts M m all b (insBy g (i .op) (i .operand) 0) (calm-quiet M m b (insBy g (i .op) (i .operand) 0) c))) w) f
 
   pub step-failed : (r .fault ≡ 0 → ⊥) → Visits M m all F o i n (r .fault) l Q
   unfolding Takes WentBy
@@ -284,6 +288,7 @@ module _ (M : Module) (m : Method) (all : List (Site Ins)) (F : Shapes) (o : ℕ
       went : (x : Option Act) → Takes Q r (λ a. effect M m a (shapeAt F o)) x → WentBy Q n (r .fault) l (λ a. visit M m F (here o a (i .next))) x
       went none t = t
       went (some a) t = subst (λ (A : Answer ℕ Shapes). Went Q n (r .fault) l A) (sym (visit-is M m F o a (i .next) n z)) (failed Q r (effect M m a (shapeAt F o)) n l (λ S. goesOn n (marked F o) (falls a) (i .next) (targets a) S) t k)
+
       by-test : (c : Bool) → eqb g 3 ≡ c → Visits M m all F o i n (r .fault) l Q
       by-test true q = by-operands (r .fault) false (step-ret g (i .op) (i .operand) 0 (eqb-true g 3 q)) (went (operands M m (insBy g (i .op) (i .operand) 0)) t)
       by-test false q = by-operands (r .fault) true (step-calm g (i .op) (i .operand) 0 h (eqb-false g 3 q)) (went (operands M m (insBy g (i .op) (i .operand) 0)) t)
@@ -295,6 +300,7 @@ module _ (M : Module) (m : Method) (all : List (Site Ins)) (F : Shapes) (o : ℕ
       ends : (a : Act) (A : Answer ℕ Shape) → Agrees Q r A → targets a ≡ [] → falls a ≡ false → Went Q n 0 l (A >>= λ S. goesOn n (marked F o) (falls a) (i .next) (targets a) S)
       ends a (bad j) c x y = let u : r .fault ≡ j = c .0 in let v : 12 < j = c .1 in absurd (omega arith)
       ends a (ok S) c x y = rw (x, y) (refl, w)
+
       went : (x : Option Act) → Takes Q r (λ a. effect M m a (shapeAt F o)) x → Quietly false x → WentBy Q n 0 l (λ a. visit M m F (here o a (i .next))) x
       went none t c = let u : r .fault ≡ 12 = t in absurd (omega arith)
       went (some a) t c = subst (λ (A : Answer ℕ Shapes). Went Q n 0 l A) (sym (visit-is M m F o a (i .next) n z)) (ends a (effect M m a (shapeAt F o)) t (c .0) (c .1))
@@ -306,6 +312,7 @@ module _ (M : Module) (m : Method) (all : List (Site Ins)) (F : Shapes) (o : ℕ
       ends : (a : Act) (A : Answer ℕ Shape) → Agrees Q r A → targets a ≡ [] → falls a ≡ true → Went Q n v l (A >>= λ S. goesOn n (marked F o) (falls a) (i .next) (targets a) S)
       ends a (bad j) c x y = let u : r .fault ≡ j = c .0 in let v : 12 < j = c .1 in absurd (omega arith)
       ends a (ok S) c x y = rw (x, y) (w S (c .1))
+
       went : (x : Option Act) → Takes Q r (λ a. effect M m a (shapeAt F o)) x → Quietly true x → WentBy Q n v l (λ a. visit M m F (here o a (i .next))) x
       went none t c = let u : r .fault ≡ 12 = t in absurd (omega arith)
       went (some a) t c = subst (λ (A : Answer ℕ Shapes). Went Q n v l A) (sym (visit-is M m F o a (i .next) n z)) (ends a (effect M m a (shapeAt F o)) t (c .0) (c .1))
@@ -324,9 +331,11 @@ step-refused M m all i Q g r e h t =
         test : (c : Bool) → eqb g 3 ≡ c → actOf M m all (insBy g (i .op) (i .operand) 0) ≡ operands M m (insBy g (i .op) (i .operand) 0)
         test true q = quiet-acts M m all false (insBy g (i .op) (i .operand) 0) (calm-quiet M m false (insBy g (i .op) (i .operand) 0) (step-ret g (i .op) (i .operand) 0 (eqb-true g 3 q)))
         test false q = quiet-acts M m all true (insBy g (i .op) (i .operand) 0) (calm-quiet M m true (insBy g (i .op) (i .operand) 0) (step-calm g (i .op) (i .operand) 0 h (eqb-false g 3 q)))
+
     effected : (a : Act) (A : Answer ℕ Shape) → Agrees Q r A → eqb (r .fault) 12 ≡ false
     effected a (bad k) c = let u : r .fault ≡ k = c .0 in let v : 12 < k = c .1 in ne-eqb (r .fault) 12 (λ w. absurd (omega arith))
     effected a (ok S) c = let u : r .fault ≡ 0 = c .0 in ne-eqb (r .fault) 12 (λ w. absurd (omega arith))
+
     by : (x : Option Act) → Takes Q r (λ a. effect M m a []) x → eqb (r .fault) 12 ≡ isNone x
     by none t = eq-eqb (r .fault) 12 t
     by (some a) t = effected a (effect M m a []) t

@@ -35,10 +35,14 @@ pub record Walk (P : Pool) (A B : Shape) (n x y : ℕ) : Type 0 where
 pub walk-start : (P : Pool) (A B : Shape) (n x y : ℕ) → Shows P A x → Shows P B y → n ≡ getD (P .heights) x 0 → getD (P .heights) x 0 ≡ getD (P .heights) y 0 → Walk P A B n x y
 walk-start P A B n x y a b e h =
     record {
-      left = A; right = B; at-left = a; at-right = b;
+      left = A;
+      right = B;
+      at-left = a;
+      at-right = b;
       size-left = sym (e ∙ height P A x a);
       size-right = sym (e ∙ (h ∙ height P B y b));
-      rest = refl }
+      rest = refl;
+    }
 
 eqTys-refl : (A : Shape) → eqTys A A ≡ true
 unfolding eqTys eqTy
@@ -87,11 +91,15 @@ module _ (P : Pool) (A B : Shape) (n x y : ℕ) (f : Fine P) (w : Walk P A B n x
       let e : length (w .left) ≡ suc (length (left-one .rest)) = ap length (left-one .is) in
       let g : length (w .right) ≡ suc (length (right-one .rest)) = ap length (right-one .is) in
       record {
-        left = left-one .rest; right = right-one .rest;
-        at-left = left-one .below c p; at-right = right-one .below d q;
-        size-left = omega arith; size-right = omega arith;
+        left = left-one .rest;
+        right = right-one .rest;
+        at-left = left-one .below c p;
+        at-right = right-one .below d q;
+        size-left = omega arith;
+        size-right = omega arith;
         rest = w .rest ∙ (eqTys-top (w .left) (w .right) (left-one .rest) (right-one .rest) (left-one .top) (right-one .top) (left-one .is) (right-one .is)
-          ∙ rw (eq-eqb (byteOf (left-one .top)) (byteOf (right-one .top)) (left-one .byte ∙ (h ∙ sym (right-one .byte))))) }
+            ∙ rw (eq-eqb (byteOf (left-one .top)) (byteOf (right-one .top)) (left-one .byte ∙ (h ∙ sym (right-one .byte)))));
+      }
 
 nil-of : (A : Shape) → length A ≡ 0 → A ≡ []
 nil-of [] e = refl
@@ -133,7 +141,7 @@ drop-top : (i : ℕ) (S R : Shape) (v : Ty) → S ≡ v ∷ R → drop (suc i) S
 drop-top i S R v e = rw e
 
 module _ (P : Pool) (ps l : List ℕ) (ts : List Ty) (S : Shape) (n i x from : ℕ) (r : Bool) (f : Fine P) (p : Popping P ps ts S n (suc i) x)
-  (types : Types l from ts) (inside : i < length ts) (said : (A B : Ty) → byteOf A ≡ getD (P .tops) x 0 → byteOf B ≡ getD l (from + i) 0 → r ≡ fits ps A B) where
+    (types : Types l from ts) (inside : i < length ts) (said : (A B : Ty) → byteOf A ≡ getD (P .tops) x 0 → byteOf B ≡ getD l (from + i) 0 → r ≡ fits ps A B) where
   top-one : One P (p .rest) x
   top-one = one P (p .rest) x f (let h : getD (P .heights) x 0 ≡ length (p .rest) = height P (p .rest) x (p .shows) in let k : suc i ≤ length (p .rest) = p .enough in omega arith) (p .shows)
 
@@ -150,7 +158,8 @@ module _ (P : Pool) (ps l : List ℕ) (ts : List Ty) (S : Shape) (n i x from : �
         shows = top-one .below b h;
         enough = omega arith;
         fit = p .fit ∙ (fit-top ps ts i (p .rest) (top-one .rest) (top-one .top) (top-one .is) ∙ and-true _ _ _ fit-said e);
-        left = p .left ∙ drop-top i (p .rest) (top-one .rest) (top-one .top) (top-one .is) }
+        left = p .left ∙ drop-top i (p .rest) (top-one .rest) (top-one .top) (top-one .is);
+      }
 
   pub popping-wrong : r ≡ false → fitDown (fits ps) ts n S ≡ false
   popping-wrong e = p .fit ∙ (fit-top ps ts i (p .rest) (top-one .rest) (top-one .top) (top-one .is) ∙ and-false _ _ _ fit-said e)

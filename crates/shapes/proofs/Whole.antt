@@ -62,7 +62,8 @@ module _ (M : Module) (code : List ℕ) (L : Loaded) (B : Bounded M) (H : Holds 
     owner = λ r d e. H .by-field .owner r ∙ ap (λ (f : Field). f .owner) (field-there (M .fields) r d e);
     low = λ r d e. let k : d .owner ≤ 32 = B .field-owner r d e in omega arith;
     static = λ r d e. H .by-field .static r ∙ ap (λ (f : Field). flag (f .isStatic)) (field-there (M .fields) r d e);
-    type = λ r d e. H .by-field .type r d e }
+    type = λ r d e. H .by-field .type r d e;
+  }
 
   held-arguments : (r : ℕ) (k : Method) → row (M .methods) r ≡ some k → Types (L .types) (r * 24) (arguments k)
   held-arguments r k e i t q =
@@ -94,7 +95,8 @@ module _ (M : Module) (code : List ℕ) (L : Loaded) (B : Bounded M) (H : Holds 
     due = held-due;
     arity = held-arity;
     small = B .argument-count;
-    arguments-at = held-arguments }
+    arguments-at = held-arguments;
+  }
 
   pub held : (r : ℕ) (k : Method) → row (M .methods) r ≡ some k
       → Held M k (L .classes) (L .fields) (L .methods) r (getD (L .stacks) r 0) (L .parents) (L .«field_owners») (L .flags) (L .«field_types») (L .owners) (L .sorts) (L .returns) (L .arguments) (L .locals) (L .types)
@@ -110,7 +112,9 @@ module _ (M : Module) (code : List ℕ) (L : Loaded) (B : Bounded M) (H : Holds 
       arguments-at = λ i t q. let z : r * 24 + 0 + i ≡ r * 24 + i = omega arith in rw z (held-arguments r k e i t q);
       local-count = H .by-method .local-count r ∙ ap (λ (x : Method). length (x .locals)) (method-there (M .methods) r k e);
       local-small = B .local-count r k e;
-      locals-at = held-locals r k e } }
+      locals-at = held-locals r k e;
+    };
+  }
 
   pub held-code : (r : ℕ) (k : Method) → row (M .methods) r ≡ some k → k .code ≡ partOf code (getD (L .offsets) r 0) (getD (L .lengths) r 0)
   held-code r k e = ap (λ (x : Method). x .code) (sym (method-there (M .methods) r k e)) ∙ H .by-method .part r
@@ -151,6 +155,7 @@ checking-next M r a b w c h t z =
     on : (A : Answer Fault (List Shapes)) (G : Shapes) → firstFault (A >>= λ l. ok (G ∷ l)) ≡ firstFault A
     on (bad f) G = refl
     on (ok l) G = refl
+
     by : (A : Answer Refusal Shapes) → Tells a b A → firstFault (blame (faultIn r) A >>= λ found. checkMethods M (suc r) (drop r (M .methods)) >>= λ l. ok (found ∷ l)) ≡ firstFault (checkMethods M (r + 1) (drop (r + 1 - 1) (M .methods)))
     by (bad f) t = let x : 10 < a = t .1 in absurd (omega arith)
     by (ok G) t =
@@ -207,4 +212,6 @@ ready-first = record {
     heights = length-replicate {A = ℕ} 2048 0;
     some = omega arith;
     few = omega arith;
-    empty = zeros-at 2048 1 } }
+    empty = zeros-at 2048 1;
+  };
+}

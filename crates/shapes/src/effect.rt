@@ -12,18 +12,26 @@ ghost use Rattle.model.specs.Check.{Shape, popsOne, pushes, plainEffect, testEf
 ghost use Rattle.shapes.specs.Pool.{pool, Fine, Shows, Small, Effect, Parents};
 ghost use Rattle.shapes.specs.Kinds.{unaryBy};
 ghost use Rattle.shapes.specs.Effects.{binaryEffect, compareEffect, whenEffect, calledEffect, Due, Gives, Types, Pops};
-use super::shape::After;
-use super::shape::below;
-use super::shape::put;
-use super::shape::fault;
+use super::fit::converts;
 use super::fit::fits;
 use super::fit::kind_of;
 use super::fit::takes;
-use super::fit::converts;
 use super::fit::wide;
+use super::shape::After;
+use super::shape::below;
+use super::shape::fault;
+use super::shape::put;
 
 // A type is loaded.
-pub fn push(tops: &mut [u8; 2048], belows: &mut [u16; 2048], heights: &mut [u8; 2048], made: usize, s: usize, t: u8, max: u8) -> After
+pub fn push(
+    tops: &mut [u8; 2048],
+    belows: &mut [u16; 2048],
+    heights: &mut [u8; 2048],
+    made: usize,
+    s: usize,
+    t: u8,
+    max: u8,
+) -> After
     requires { ⌜ made < 2048 ⌝ ∗ ⌜ s < 2048 ⌝ }
     ensures { λ r. ⌜ Small r made ⌝ ∗ ⌜ ((m : Method) (u : Ty) → m .maxStack ≡ max → byteOf u ≡ t → Effect (pool (now (tops .entry)) (now (belows .entry)) (now (heights .entry)) made) (pool (now (tops .exit)) (now (belows .exit)) (now (heights .exit)) (r .made)) r s (pushes m u)) ⌝ }
 {
@@ -34,7 +42,14 @@ pub fn push(tops: &mut [u8; 2048], belows: &mut [u16; 2048], heights: &mut [u8; 
     put(tops, belows, heights, made, s, t, h + 1)
 }
 
-pub fn dup(tops: &mut [u8; 2048], belows: &mut [u16; 2048], heights: &mut [u8; 2048], made: usize, s: usize, max: u8) -> After
+pub fn dup(
+    tops: &mut [u8; 2048],
+    belows: &mut [u16; 2048],
+    heights: &mut [u8; 2048],
+    made: usize,
+    s: usize,
+    max: u8,
+) -> After
     requires { ⌜ made < 2048 ⌝ ∗ ⌜ s < 2048 ⌝ }
     ensures { λ r. ⌜ Small r made ⌝ ∗ ⌜ ((M : Module) (m : Method) → m .maxStack ≡ max → Effect (pool (now (tops .entry)) (now (belows .entry)) (now (heights .entry)) made) (pool (now (tops .exit)) (now (belows .exit)) (now (heights .exit)) (r .made)) r s (plainEffect M m dup)) ⌝ }
 {
@@ -60,7 +75,15 @@ pub fn pop(belows: &[u16; 2048], heights: &[u8; 2048], made: usize, s: usize) ->
 }
 
 // A value that fits a type is popped.
-pub fn store(parents: &[u8; 33], tops: &[u8; 2048], belows: &[u16; 2048], heights: &[u8; 2048], made: usize, s: usize, t: u8) -> After
+pub fn store(
+    parents: &[u8; 33],
+    tops: &[u8; 2048],
+    belows: &[u16; 2048],
+    heights: &[u8; 2048],
+    made: usize,
+    s: usize,
+    t: u8,
+) -> After
     requires { ⌜ made < 2048 ⌝ ∗ ⌜ s < 2048 ⌝ }
     ensures { λ r. ⌜ Small r made ⌝ ∗ ⌜ ((M : Module) (u : Ty) → Parents (M .parents) (now (parents .entry)) → byteOf u ≡ t → Effect (pool (now (tops .entry)) (now (belows .entry)) (now (heights .entry)) made) (pool (now (tops .entry)) (now (belows .entry)) (now (heights .entry)) (r .made)) r s (popsOne M u)) ⌝ }
 {
@@ -78,7 +101,16 @@ pub fn store(parents: &[u8; 33], tops: &[u8; 2048], belows: &[u16; 2048], height
 }
 
 // A field of an object takes the object's place.
-pub fn ldfld(parents: &[u8; 33], tops: &mut [u8; 2048], belows: &mut [u16; 2048], heights: &mut [u8; 2048], made: usize, s: usize, owner: u8, t: u8) -> After
+pub fn ldfld(
+    parents: &[u8; 33],
+    tops: &mut [u8; 2048],
+    belows: &mut [u16; 2048],
+    heights: &mut [u8; 2048],
+    made: usize,
+    s: usize,
+    owner: u8,
+    t: u8,
+) -> After
     requires { ⌜ made < 2048 ⌝ ∗ ⌜ s < 2048 ⌝ }
     ensures { λ r. ⌜ Small r made ⌝ ∗ ⌜ ((M : Module) (m : Method) (d : Field) → Parents (M .parents) (now (parents .entry)) → byteOf (class (d .owner)) ≡ owner → byteOf (d .type) ≡ t → Effect (pool (now (tops .entry)) (now (belows .entry)) (now (heights .entry)) made) (pool (now (tops .exit)) (now (belows .exit)) (now (heights .exit)) (r .made)) r s (effect M m (Act.ldfld 0 d))) ⌝ }
 {
@@ -93,7 +125,16 @@ pub fn ldfld(parents: &[u8; 33], tops: &mut [u8; 2048], belows: &mut [u16; 2048]
     fault(15, made)
 }
 
-pub fn stfld(parents: &[u8; 33], tops: &[u8; 2048], belows: &[u16; 2048], heights: &[u8; 2048], made: usize, s: usize, owner: u8, t: u8) -> After
+pub fn stfld(
+    parents: &[u8; 33],
+    tops: &[u8; 2048],
+    belows: &[u16; 2048],
+    heights: &[u8; 2048],
+    made: usize,
+    s: usize,
+    owner: u8,
+    t: u8,
+) -> After
     requires { ⌜ made < 2048 ⌝ ∗ ⌜ s < 2048 ⌝ }
     ensures { λ r. ⌜ Small r made ⌝ ∗ ⌜ ((M : Module) (m : Method) (d : Field) → Parents (M .parents) (now (parents .entry)) → byteOf (class (d .owner)) ≡ owner → byteOf (d .type) ≡ t → Effect (pool (now (tops .entry)) (now (belows .entry)) (now (heights .entry)) made) (pool (now (tops .entry)) (now (belows .entry)) (now (heights .entry)) (r .made)) r s (effect M m (Act.stfld 0 d))) ⌝ }
 {
@@ -115,7 +156,14 @@ pub fn stfld(parents: &[u8; 33], tops: &[u8; 2048], belows: &[u16; 2048], height
 }
 
 // After castclass and isinst the check finds the token's class.
-pub fn cast(tops: &mut [u8; 2048], belows: &mut [u16; 2048], heights: &mut [u8; 2048], made: usize, s: usize, t: u8) -> After
+pub fn cast(
+    tops: &mut [u8; 2048],
+    belows: &mut [u16; 2048],
+    heights: &mut [u8; 2048],
+    made: usize,
+    s: usize,
+    t: u8,
+) -> After
     requires { ⌜ made < 2048 ⌝ ∗ ⌜ s < 2048 ⌝ }
     ensures { λ r. ⌜ Small r made ⌝ ∗ ⌜ ((c : ℕ) → byteOf (class c) ≡ t → Effect (pool (now (tops .entry)) (now (belows .entry)) (now (heights .entry)) made) (pool (now (tops .exit)) (now (belows .exit)) (now (heights .exit)) (r .made)) r s (castEffect c)) ⌝ }
 {
@@ -130,7 +178,14 @@ pub fn cast(tops: &mut [u8; 2048], belows: &mut [u16; 2048], heights: &mut [u8; 
     fault(15, made)
 }
 
-pub fn unary(tops: &mut [u8; 2048], belows: &mut [u16; 2048], heights: &mut [u8; 2048], made: usize, s: usize, g: u8) -> After
+pub fn unary(
+    tops: &mut [u8; 2048],
+    belows: &mut [u16; 2048],
+    heights: &mut [u8; 2048],
+    made: usize,
+    s: usize,
+    g: u8,
+) -> After
     requires { ⌜ made < 2048 ⌝ ∗ ⌜ s < 2048 ⌝ }
     ensures { λ r. ⌜ Small r made ⌝ ∗ ⌜ ((M : Module) (m : Method) → Effect (pool (now (tops .entry)) (now (belows .entry)) (now (heights .entry)) made) (pool (now (tops .exit)) (now (belows .exit)) (now (heights .exit)) (r .made)) r s (plainEffect M m (unary (unaryBy g)))) ⌝ }
 {
@@ -147,7 +202,14 @@ pub fn unary(tops: &mut [u8; 2048], belows: &mut [u16; 2048], heights: &mut [u8;
 }
 
 // The result has the type of the first operand.
-pub fn binary(tops: &[u8; 2048], belows: &[u16; 2048], heights: &[u8; 2048], made: usize, s: usize, which: u8) -> After
+pub fn binary(
+    tops: &[u8; 2048],
+    belows: &[u16; 2048],
+    heights: &[u8; 2048],
+    made: usize,
+    s: usize,
+    which: u8,
+) -> After
     requires { ⌜ made < 2048 ⌝ ∗ ⌜ s < 2048 ⌝ }
     ensures { λ r. ⌜ Small r made ⌝ ∗ ⌜ (Effect (pool (now (tops .entry)) (now (belows .entry)) (now (heights .entry)) made) (pool (now (tops .entry)) (now (belows .entry)) (now (heights .entry)) (r .made)) r s (binaryEffect which)) ⌝ }
 {
@@ -166,7 +228,14 @@ pub fn binary(tops: &[u8; 2048], belows: &[u16; 2048], heights: &[u8; 2048], mad
 }
 
 // A comparison gives an int32.
-pub fn compare(tops: &mut [u8; 2048], belows: &mut [u16; 2048], heights: &mut [u8; 2048], made: usize, s: usize, which: u8) -> After
+pub fn compare(
+    tops: &mut [u8; 2048],
+    belows: &mut [u16; 2048],
+    heights: &mut [u8; 2048],
+    made: usize,
+    s: usize,
+    which: u8,
+) -> After
     requires { ⌜ made < 2048 ⌝ ∗ ⌜ s < 2048 ⌝ }
     ensures { λ r. ⌜ Small r made ⌝ ∗ ⌜ (Effect (pool (now (tops .entry)) (now (belows .entry)) (now (heights .entry)) made) (pool (now (tops .exit)) (now (belows .exit)) (now (heights .exit)) (r .made)) r s (compareEffect which)) ⌝ }
 {
@@ -183,7 +252,14 @@ pub fn compare(tops: &mut [u8; 2048], belows: &mut [u16; 2048], heights: &mut [u
 }
 
 // A branch on a comparison.
-pub fn when(tops: &[u8; 2048], belows: &[u16; 2048], heights: &[u8; 2048], made: usize, s: usize, which: u8) -> After
+pub fn when(
+    tops: &[u8; 2048],
+    belows: &[u16; 2048],
+    heights: &[u8; 2048],
+    made: usize,
+    s: usize,
+    which: u8,
+) -> After
     requires { ⌜ made < 2048 ⌝ ∗ ⌜ s < 2048 ⌝ }
     ensures { λ r. ⌜ Small r made ⌝ ∗ ⌜ (Effect (pool (now (tops .entry)) (now (belows .entry)) (now (heights .entry)) made) (pool (now (tops .entry)) (now (belows .entry)) (now (heights .entry)) made) r s (whenEffect which)) ⌝ }
 {
@@ -202,7 +278,13 @@ pub fn when(tops: &[u8; 2048], belows: &[u16; 2048], heights: &[u8; 2048], made:
 }
 
 // brtrue and brfalse take int32, int64 or a reference.
-pub fn test(tops: &[u8; 2048], belows: &[u16; 2048], heights: &[u8; 2048], made: usize, s: usize) -> After
+pub fn test(
+    tops: &[u8; 2048],
+    belows: &[u16; 2048],
+    heights: &[u8; 2048],
+    made: usize,
+    s: usize,
+) -> After
     requires { ⌜ made < 2048 ⌝ ∗ ⌜ s < 2048 ⌝ }
     ensures { λ r. ⌜ Small r made ⌝ ∗ ⌜ (Effect (pool (now (tops .entry)) (now (belows .entry)) (now (heights .entry)) made) (pool (now (tops .entry)) (now (belows .entry)) (now (heights .entry)) made) r s (testEffect)) ⌝ }
 {
@@ -220,7 +302,14 @@ pub fn test(tops: &[u8; 2048], belows: &[u16; 2048], heights: &[u8; 2048], made:
 }
 
 // Exactly the return value, or nothing for void.
-pub fn ret(parents: &[u8; 33], tops: &[u8; 2048], heights: &[u8; 2048], made: usize, s: usize, due: u8) -> After
+pub fn ret(
+    parents: &[u8; 33],
+    tops: &[u8; 2048],
+    heights: &[u8; 2048],
+    made: usize,
+    s: usize,
+    due: u8,
+) -> After
     requires { ⌜ made < 2048 ⌝ ∗ ⌜ s < 2048 ⌝ }
     ensures { λ r. ⌜ Small r made ⌝ ∗ ⌜ ((l : List ℕ) (M : Module) (m : Method) → Parents (M .parents) (now (parents .entry)) → Due m due → Effect (pool (now (tops .entry)) l (now (heights .entry)) made) (pool (now (tops .entry)) l (now (heights .entry)) (r .made)) r s (plainEffect M m ret)) ⌝ }
 {
@@ -258,7 +347,15 @@ pub struct Popped {
 }
 
 // n values are popped that fit the types from a place on, the last on top.
-fn pops(parents: &[u8; 33], types: &[u8; 3096], tops: &[u8; 2048], belows: &[u16; 2048], s: usize, from: usize, n: usize) -> Popped
+fn pops(
+    parents: &[u8; 33],
+    types: &[u8; 3096],
+    tops: &[u8; 2048],
+    belows: &[u16; 2048],
+    s: usize,
+    from: usize,
+    n: usize,
+) -> Popped
     requires { ⌜ s < 2048 ⌝ ∗ ⌜ from + n ≤ 3096 ⌝ }
     ensures { λ r. ⌜ r .rest < 2048 ⌝ ∗ ⌜ ((k : ℕ) (h ps : List ℕ) (ts : List Ty) (S : Shape) → Parents ps (now (parents .entry)) → Types (now (types .entry)) from ts → length ts ≡ n → n ≤ length S → Fine (pool (now (tops .entry)) (now (belows .entry)) h k) → Shows (pool (now (tops .entry)) (now (belows .entry)) h k) S s → Pops (pool (now (tops .entry)) (now (belows .entry)) h k) r (fitAll (fits ps) ts (firsts n S [])) (drop n S)) ⌝ }
 {
@@ -276,14 +373,23 @@ fn pops(parents: &[u8; 33], types: &[u8; 3096], tops: &[u8; 2048], belows: &[u16
             };
         }
     }
-    Popped {
-        fit: true,
-        rest: x,
-    }
+    Popped { fit: true, rest: x }
 }
 
 // A call: n arguments are popped, and the value to come, unless it is 0, has room.
-pub fn call(parents: &[u8; 33], types: &[u8; 3096], tops: &mut [u8; 2048], belows: &mut [u16; 2048], heights: &mut [u8; 2048], made: usize, s: usize, from: usize, n: usize, gives: u8, max: u8) -> After
+pub fn call(
+    parents: &[u8; 33],
+    types: &[u8; 3096],
+    tops: &mut [u8; 2048],
+    belows: &mut [u16; 2048],
+    heights: &mut [u8; 2048],
+    made: usize,
+    s: usize,
+    from: usize,
+    n: usize,
+    gives: u8,
+    max: u8,
+) -> After
     requires { ⌜ made < 2048 ⌝ ∗ ⌜ s < 2048 ⌝ ∗ ⌜ from + n ≤ 3096 ⌝ }
     ensures { λ r. ⌜ Small r made ⌝ ∗ ⌜ ((M : Module) (m : Method) (ts : List Ty) (o : Option Ty) → m .maxStack ≡ max → Parents (M .parents) (now (parents .entry)) → Types (now (types .entry)) from ts → length ts ≡ n → Gives o gives → Effect (pool (now (tops .entry)) (now (belows .entry)) (now (heights .entry)) made) (pool (now (tops .exit)) (now (belows .exit)) (now (heights .exit)) (r .made)) r s (calledEffect M m ts o)) ⌝ }
 {

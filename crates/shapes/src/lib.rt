@@ -8,19 +8,19 @@ ghost use Rattle.tables.specs.Holds.{Holds};
 ghost use Rattle.shapes.specs.Bounded.{Bounded};
 ghost use Rattle.shapes.specs.Verdicts.{numbered, faultOf, firstFault};
 
-mod shape;
-mod fit;
 mod effect;
+mod fit;
 mod group;
 mod operand;
+mod pass;
+mod shape;
 mod step;
 mod visit;
-mod pass;
 
-use tables::Loaded;
 use code::part::part;
-use pass::method;
 use pass::Told;
+use pass::method;
+use tables::Loaded;
 
 // What the check says; each fault has its method row and offset.
 pub enum Verdict {
@@ -80,7 +80,29 @@ pub fn check(m: Loaded, code: &[u8]) -> Verdict
             return Verdict::Passes;
         }
         let body = part(code, offsets[row], lengths[row]);
-        let t = method(m.classes, m.fields, m.methods, &parents, &field_owners, &flags, &field_types, &owners, &sorts, &returns, &arguments, &locals, &types, &mut starts, &mut tops, &mut belows, &mut heights, &mut found, row, stacks[row], body);
+        let t = method(
+            m.classes,
+            m.fields,
+            m.methods,
+            &parents,
+            &field_owners,
+            &flags,
+            &field_types,
+            &owners,
+            &sorts,
+            &returns,
+            &arguments,
+            &locals,
+            &types,
+            &mut starts,
+            &mut tops,
+            &mut belows,
+            &mut heights,
+            &mut found,
+            row,
+            stacks[row],
+            body,
+        );
         if t.number != 0 {
             return verdict_of(t, row);
         }

@@ -10,12 +10,19 @@ ghost use Rattle.model.specs.Code.{rowOf};
 ghost use Rattle.shapes.specs.Effects.{Types};
 ghost use Rattle.shapes.specs.Groups.{mayCall};
 ghost use Rattle.shapes.specs.Held.{Typed, rowAmong};
+use super::fit::wide;
 use code::operand::Row;
 use code::operand::row_of;
-use super::fit::wide;
 
 // The type of an argument or local of a method, 256 where it has none of that number.
-pub fn declared(counts: &[u8; 129], types: &[u8; 3096], row: usize, from: usize, most: usize, i: usize) -> usize
+pub fn declared(
+    counts: &[u8; 129],
+    types: &[u8; 3096],
+    row: usize,
+    from: usize,
+    most: usize,
+    i: usize,
+) -> usize
     requires { ⌜ row < 129 ⌝ ∗ ⌜ from + most ≤ 24 ⌝ }
     ensures { λ r. ⌜ ((ts : List Ty) → getD (now (counts .entry)) row 0 ≡ length ts → length ts ≤ most → Types (now (types .entry)) (row * 24 + from) ts → Typed r (at ts i)) ⌝ }
 {

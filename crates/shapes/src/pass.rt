@@ -12,16 +12,16 @@ ghost use Rattle.shapes.specs.Pool.{pool, Fine};
 ghost use Rattle.shapes.specs.Held.{Held};
 ghost use Rattle.shapes.specs.Found.{Starts, Kept};
 ghost use Rattle.shapes.specs.Fused.{actOf, onward, Tells, Late, Cleared, Scanned, Ready, Visits, Passing, nothing};
-use code::insn::Read;
-use code::insn::Insn;
-use code::decode::read;
 use super::group::group;
 use super::step::step;
 use super::visit::Visited;
-use super::visit::visit_branch;
-use super::visit::onward;
 use super::visit::lands;
+use super::visit::onward;
 use super::visit::shape_at;
+use super::visit::visit_branch;
+use code::decode::read;
+use code::insn::Insn;
+use code::insn::Read;
 
 // No instruction starts, and no shape is found, at the first n offsets.
 fn clear(starts: &mut [u8; 1024], found: &mut [u16; 1024], n: usize)
@@ -62,7 +62,32 @@ fn scan(code: &[u8], starts: &mut [u8; 1024]) -> usize
 }
 
 // One instruction.
-fn visit(classes: usize, fields: usize, methods: usize, parents: &[u8; 33], field_owners: &[u8; 129], flags: &[u8; 129], field_types: &[u8; 129], owners: &[u8; 129], sorts: &[u8; 129], returns: &[u8; 129], arguments: &[u8; 129], locals: &[u8; 129], types: &[u8; 3096], starts: &[u8; 1024], tops: &mut [u8; 2048], belows: &mut [u16; 2048], heights: &mut [u8; 2048], found: &mut [u16; 1024], made: usize, row: usize, max: u8, size: usize, at: usize, i: Insn) -> Visited
+fn visit(
+    classes: usize,
+    fields: usize,
+    methods: usize,
+    parents: &[u8; 33],
+    field_owners: &[u8; 129],
+    flags: &[u8; 129],
+    field_types: &[u8; 129],
+    owners: &[u8; 129],
+    sorts: &[u8; 129],
+    returns: &[u8; 129],
+    arguments: &[u8; 129],
+    locals: &[u8; 129],
+    types: &[u8; 3096],
+    starts: &[u8; 1024],
+    tops: &mut [u8; 2048],
+    belows: &mut [u16; 2048],
+    heights: &mut [u8; 2048],
+    found: &mut [u16; 1024],
+    made: usize,
+    row: usize,
+    max: u8,
+    size: usize,
+    at: usize,
+    i: Insn,
+) -> Visited
     requires { ⌜ made < 2048 ⌝ ∗ ⌜ row < 129 ⌝ ∗ ⌜ at < size ⌝ ∗ ⌜ size ≤ 1024 ⌝ }
     ensures { λ r. ⌜ r .made ≤ made + 1 ⌝ ∗ ⌜ ((M : Module) (m : Method) (all : List (Site Ins)) (F : Shapes) → Held M m classes fields methods row max (now (parents .entry)) (now («field_owners» .entry)) (now (flags .entry)) (now («field_types» .entry)) (now (owners .entry)) (now (sorts .entry)) (now (returns .entry)) (now (arguments .entry)) (now (locals .entry)) (now (types .entry)) → length (m .code) ≡ size → Starts all size (now (starts .entry)) → Fine (pool (now (tops .entry)) (now (belows .entry)) (now (heights .entry)) made) → Kept (pool (now (tops .entry)) (now (belows .entry)) (now (heights .entry)) made) size F (now (found .entry)) → Visits M m all F at i size (r .fault) (now (found .exit)) (pool (now (tops .exit)) (now (belows .exit)) (now (heights .exit)) (r .made))) ⌝ }
 {
@@ -71,11 +96,48 @@ fn visit(classes: usize, fields: usize, methods: usize, parents: &[u8; 33], fiel
     let op = i.op as usize;
     if 33 <= g {
         return Visited {
-            fault: visit_branch(starts, tops, belows, heights, found, made, size, s, g, op, i.next, i.operand),
+            fault: visit_branch(
+                starts,
+                tops,
+                belows,
+                heights,
+                found,
+                made,
+                size,
+                s,
+                g,
+                op,
+                i.next,
+                i.operand,
+            ),
             made,
         };
     }
-    let a = step(classes, fields, methods, parents, field_owners, flags, field_types, owners, sorts, returns, arguments, locals, types, tops, belows, heights, made, s, row, max, g, op, i.operand);
+    let a = step(
+        classes,
+        fields,
+        methods,
+        parents,
+        field_owners,
+        flags,
+        field_types,
+        owners,
+        sorts,
+        returns,
+        arguments,
+        locals,
+        types,
+        tops,
+        belows,
+        heights,
+        made,
+        s,
+        row,
+        max,
+        g,
+        op,
+        i.operand,
+    );
     if a.fault != 0 {
         return Visited {
             fault: a.fault,
@@ -95,7 +157,29 @@ fn visit(classes: usize, fields: usize, methods: usize, parents: &[u8; 33], fiel
 }
 
 // Whether an instruction has an operand fault, or a target that starts no instruction.
-fn refused(classes: usize, fields: usize, methods: usize, parents: &[u8; 33], field_owners: &[u8; 129], flags: &[u8; 129], field_types: &[u8; 129], owners: &[u8; 129], sorts: &[u8; 129], returns: &[u8; 129], arguments: &[u8; 129], locals: &[u8; 129], types: &[u8; 3096], starts: &[u8; 1024], tops: &mut [u8; 2048], belows: &mut [u16; 2048], heights: &mut [u8; 2048], row: usize, max: u8, size: usize, i: Insn) -> bool
+fn refused(
+    classes: usize,
+    fields: usize,
+    methods: usize,
+    parents: &[u8; 33],
+    field_owners: &[u8; 129],
+    flags: &[u8; 129],
+    field_types: &[u8; 129],
+    owners: &[u8; 129],
+    sorts: &[u8; 129],
+    returns: &[u8; 129],
+    arguments: &[u8; 129],
+    locals: &[u8; 129],
+    types: &[u8; 3096],
+    starts: &[u8; 1024],
+    tops: &mut [u8; 2048],
+    belows: &mut [u16; 2048],
+    heights: &mut [u8; 2048],
+    row: usize,
+    max: u8,
+    size: usize,
+    i: Insn,
+) -> bool
     requires { ⌜ row < 129 ⌝ ∗ ⌜ size ≤ 1024 ⌝ }
     ensures { λ r. ⌜ ((M : Module) (m : Method) (all : List (Site Ins)) → Held M m classes fields methods row max (now (parents .entry)) (now («field_owners» .entry)) (now (flags .entry)) (now («field_types» .entry)) (now (owners .entry)) (now (sorts .entry)) (now (returns .entry)) (now (arguments .entry)) (now (locals .entry)) (now (types .entry)) → length (m .code) ≡ size → Starts all size (now (starts .entry)) → Fine (pool (now (tops .entry)) (now (belows .entry)) (now (heights .entry)) 2) → (r ≡ isNone (actOf M m all (insOf i))) × Fine (pool (now (tops .exit)) (now (belows .exit)) (now (heights .exit)) 2)) ⌝ }
 {
@@ -104,7 +188,31 @@ fn refused(classes: usize, fields: usize, methods: usize, parents: &[u8; 33], fi
     if 33 <= g {
         return 1024 <= lands(starts, size, op, i.next, i.operand);
     }
-    let a = step(classes, fields, methods, parents, field_owners, flags, field_types, owners, sorts, returns, arguments, locals, types, tops, belows, heights, 2, 1, row, max, g, op, i.operand);
+    let a = step(
+        classes,
+        fields,
+        methods,
+        parents,
+        field_owners,
+        flags,
+        field_types,
+        owners,
+        sorts,
+        returns,
+        arguments,
+        locals,
+        types,
+        tops,
+        belows,
+        heights,
+        2,
+        1,
+        row,
+        max,
+        g,
+        op,
+        i.operand,
+    );
     a.fault == 12
 }
 
@@ -115,7 +223,32 @@ pub struct Told {
 }
 
 // An operand fault at or after an offset, n instructions passed, comes before a shape's fault.
-fn late(classes: usize, fields: usize, methods: usize, parents: &[u8; 33], field_owners: &[u8; 129], flags: &[u8; 129], field_types: &[u8; 129], owners: &[u8; 129], sorts: &[u8; 129], returns: &[u8; 129], arguments: &[u8; 129], locals: &[u8; 129], types: &[u8; 3096], starts: &[u8; 1024], tops: &mut [u8; 2048], belows: &mut [u16; 2048], heights: &mut [u8; 2048], row: usize, max: u8, code: &[u8], passed: usize, from: usize, number: u8, offset: usize) -> Told
+fn late(
+    classes: usize,
+    fields: usize,
+    methods: usize,
+    parents: &[u8; 33],
+    field_owners: &[u8; 129],
+    flags: &[u8; 129],
+    field_types: &[u8; 129],
+    owners: &[u8; 129],
+    sorts: &[u8; 129],
+    returns: &[u8; 129],
+    arguments: &[u8; 129],
+    locals: &[u8; 129],
+    types: &[u8; 3096],
+    starts: &[u8; 1024],
+    tops: &mut [u8; 2048],
+    belows: &mut [u16; 2048],
+    heights: &mut [u8; 2048],
+    row: usize,
+    max: u8,
+    code: &[u8],
+    passed: usize,
+    from: usize,
+    number: u8,
+    offset: usize,
+) -> Told
     requires { ⌜ row < 129 ⌝ ∗ ⌜ length (now code) ≤ 1024 ⌝ }
     ensures { λ r. ⌜ ((M : Module) (m : Method) (all l : List (Site Ins)) → Held M m classes fields methods row max (now (parents .entry)) (now («field_owners» .entry)) (now (flags .entry)) (now («field_types» .entry)) (now (owners .entry)) (now (sorts .entry)) (now (returns .entry)) (now (arguments .entry)) (now (locals .entry)) (now (types .entry)) → m .code ≡ (now (code .entry)) → Starts all (length (now (code .entry))) (now (starts .entry)) → Fine (pool (now (tops .entry)) (now (belows .entry)) (now (heights .entry)) 2) → decodeFrom (length (now (code .entry)) - passed) (now (code .entry)) from ≡ ok l → Late (r .number) (r .offset) number offset (findOperands M m all l)) ⌝ }
 {
@@ -130,8 +263,33 @@ fn late(classes: usize, fields: usize, methods: usize, parents: &[u8; 33], field
                 return Told { number, offset };
             }
             Read::Found(i) => {
-                if refused(classes, fields, methods, parents, field_owners, flags, field_types, owners, sorts, returns, arguments, locals, types, starts, tops, belows, heights, row, max, code.len(), i) {
-                    return Told { number: 12, offset: at };
+                if refused(
+                    classes,
+                    fields,
+                    methods,
+                    parents,
+                    field_owners,
+                    flags,
+                    field_types,
+                    owners,
+                    sorts,
+                    returns,
+                    arguments,
+                    locals,
+                    types,
+                    starts,
+                    tops,
+                    belows,
+                    heights,
+                    row,
+                    max,
+                    code.len(),
+                    i,
+                ) {
+                    return Told {
+                        number: 12,
+                        offset: at,
+                    };
                 }
                 at = i.next;
                 n += 1;
@@ -142,7 +300,29 @@ fn late(classes: usize, fields: usize, methods: usize, parents: &[u8; 33], field
 }
 
 // Operands and shapes, by rising offset.
-fn pass(classes: usize, fields: usize, methods: usize, parents: &[u8; 33], field_owners: &[u8; 129], flags: &[u8; 129], field_types: &[u8; 129], owners: &[u8; 129], sorts: &[u8; 129], returns: &[u8; 129], arguments: &[u8; 129], locals: &[u8; 129], types: &[u8; 3096], starts: &[u8; 1024], tops: &mut [u8; 2048], belows: &mut [u16; 2048], heights: &mut [u8; 2048], found: &mut [u16; 1024], row: usize, max: u8, code: &[u8]) -> Told
+fn pass(
+    classes: usize,
+    fields: usize,
+    methods: usize,
+    parents: &[u8; 33],
+    field_owners: &[u8; 129],
+    flags: &[u8; 129],
+    field_types: &[u8; 129],
+    owners: &[u8; 129],
+    sorts: &[u8; 129],
+    returns: &[u8; 129],
+    arguments: &[u8; 129],
+    locals: &[u8; 129],
+    types: &[u8; 3096],
+    starts: &[u8; 1024],
+    tops: &mut [u8; 2048],
+    belows: &mut [u16; 2048],
+    heights: &mut [u8; 2048],
+    found: &mut [u16; 1024],
+    row: usize,
+    max: u8,
+    code: &[u8],
+) -> Told
     requires { ⌜ row < 129 ⌝ ∗ ⌜ length (now code) ≤ 1024 ⌝ }
     ensures { λ r. ⌜ ((M : Module) (m : Method) (all : List (Site Ins)) → Held M m classes fields methods row max (now (parents .entry)) (now («field_owners» .entry)) (now (flags .entry)) (now («field_types» .entry)) (now (owners .entry)) (now (sorts .entry)) (now (returns .entry)) (now (arguments .entry)) (now (locals .entry)) (now (types .entry)) → m .code ≡ (now (code .entry)) → Starts all (length (now (code .entry))) (now (starts .entry)) → decodeFrom (length (now (code .entry))) (now (code .entry)) 0 ≡ ok all → Fine (pool (now (tops .entry)) (now (belows .entry)) (now (heights .entry)) 2) → Kept (pool (now (tops .entry)) (now (belows .entry)) (now (heights .entry)) 2) (length (now (code .entry))) (nothing (length (now (code .entry)))) (now (found .entry)) → Tells (r .number) (r .offset) (onward M m all all (nothing (length (now (code .entry))))) × (r .number ≡ 0 → Passing (now (found .exit)) (pool (now (tops .exit)) (now (belows .exit)) (now (heights .exit)) 2))) ⌝ }
 {
@@ -151,19 +331,78 @@ fn pass(classes: usize, fields: usize, methods: usize, parents: &[u8; 33], field
     let mut made = 2;
     while n < code.len() {
         if code.len() <= at {
-            return Told { number: 0, offset: 0 };
+            return Told {
+                number: 0,
+                offset: 0,
+            };
         }
         match read(code, at) {
             Read::Undecodable => {
-                return Told { number: 0, offset: 0 };
+                return Told {
+                    number: 0,
+                    offset: 0,
+                };
             }
             Read::Found(i) => {
-                let v = visit(classes, fields, methods, parents, field_owners, flags, field_types, owners, sorts, returns, arguments, locals, types, starts, tops, belows, heights, found, made, row, max, code.len(), at, i);
+                let v = visit(
+                    classes,
+                    fields,
+                    methods,
+                    parents,
+                    field_owners,
+                    flags,
+                    field_types,
+                    owners,
+                    sorts,
+                    returns,
+                    arguments,
+                    locals,
+                    types,
+                    starts,
+                    tops,
+                    belows,
+                    heights,
+                    found,
+                    made,
+                    row,
+                    max,
+                    code.len(),
+                    at,
+                    i,
+                );
                 if v.fault == 12 {
-                    return Told { number: 12, offset: at };
+                    return Told {
+                        number: 12,
+                        offset: at,
+                    };
                 }
                 if v.fault != 0 {
-                    return late(classes, fields, methods, parents, field_owners, flags, field_types, owners, sorts, returns, arguments, locals, types, starts, tops, belows, heights, row, max, code, n + 1, i.next, v.fault, at);
+                    return late(
+                        classes,
+                        fields,
+                        methods,
+                        parents,
+                        field_owners,
+                        flags,
+                        field_types,
+                        owners,
+                        sorts,
+                        returns,
+                        arguments,
+                        locals,
+                        types,
+                        starts,
+                        tops,
+                        belows,
+                        heights,
+                        row,
+                        max,
+                        code,
+                        n + 1,
+                        i.next,
+                        v.fault,
+                        at,
+                    );
                 }
                 made = v.made;
                 at = i.next;
@@ -171,21 +410,74 @@ fn pass(classes: usize, fields: usize, methods: usize, parents: &[u8; 33], field
             }
         }
     }
-    Told { number: 0, offset: 0 }
+    Told {
+        number: 0,
+        offset: 0,
+    }
 }
 
 // One method.
-pub fn method(classes: usize, fields: usize, methods: usize, parents: &[u8; 33], field_owners: &[u8; 129], flags: &[u8; 129], field_types: &[u8; 129], owners: &[u8; 129], sorts: &[u8; 129], returns: &[u8; 129], arguments: &[u8; 129], locals: &[u8; 129], types: &[u8; 3096], starts: &mut [u8; 1024], tops: &mut [u8; 2048], belows: &mut [u16; 2048], heights: &mut [u8; 2048], found: &mut [u16; 1024], row: usize, max: u8, code: &[u8]) -> Told
+pub fn method(
+    classes: usize,
+    fields: usize,
+    methods: usize,
+    parents: &[u8; 33],
+    field_owners: &[u8; 129],
+    flags: &[u8; 129],
+    field_types: &[u8; 129],
+    owners: &[u8; 129],
+    sorts: &[u8; 129],
+    returns: &[u8; 129],
+    arguments: &[u8; 129],
+    locals: &[u8; 129],
+    types: &[u8; 3096],
+    starts: &mut [u8; 1024],
+    tops: &mut [u8; 2048],
+    belows: &mut [u16; 2048],
+    heights: &mut [u8; 2048],
+    found: &mut [u16; 1024],
+    row: usize,
+    max: u8,
+    code: &[u8],
+) -> Told
     requires { ⌜ row < 129 ⌝ }
     ensures { λ r. ⌜ ((M : Module) (m : Method) → Held M m classes fields methods row max (now (parents .entry)) (now («field_owners» .entry)) (now (flags .entry)) (now («field_types» .entry)) (now (owners .entry)) (now (sorts .entry)) (now (returns .entry)) (now (arguments .entry)) (now (locals .entry)) (now (types .entry)) → m .code ≡ (now (code .entry)) → length (now (code .entry)) ≤ 1024 → Ready (now (starts .entry)) (now (found .entry)) (now (tops .entry)) (now (belows .entry)) (now (heights .entry)) → Tells (r .number) (r .offset) (checkMethod M m) × (r .number ≡ 0 → Ready (now (starts .exit)) (now (found .exit)) (now (tops .exit)) (now (belows .exit)) (now (heights .exit)))) ⌝ }
 {
     if 1024 < code.len() {
-        return Told { number: 0, offset: 0 };
+        return Told {
+            number: 0,
+            offset: 0,
+        };
     }
     clear(starts, found, code.len());
     let at = scan(code, starts);
     if at < code.len() {
-        return Told { number: 11, offset: at };
+        return Told {
+            number: 11,
+            offset: at,
+        };
     }
-    pass(classes, fields, methods, parents, field_owners, flags, field_types, owners, sorts, returns, arguments, locals, types, starts, tops, belows, heights, found, row, max, code)
+    pass(
+        classes,
+        fields,
+        methods,
+        parents,
+        field_owners,
+        flags,
+        field_types,
+        owners,
+        sorts,
+        returns,
+        arguments,
+        locals,
+        types,
+        starts,
+        tops,
+        belows,
+        heights,
+        found,
+        row,
+        max,
+        code,
+    )
 }

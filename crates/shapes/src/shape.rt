@@ -24,7 +24,15 @@ pub fn below(belows: &[u16; 2048], s: usize) -> usize
 }
 
 // A new shape, with a type on top of a shape.
-pub fn put(tops: &mut [u8; 2048], belows: &mut [u16; 2048], heights: &mut [u8; 2048], made: usize, s: usize, t: u8, h: u8) -> After
+pub fn put(
+    tops: &mut [u8; 2048],
+    belows: &mut [u16; 2048],
+    heights: &mut [u8; 2048],
+    made: usize,
+    s: usize,
+    t: u8,
+    h: u8,
+) -> After
     requires { ⌜ made < 2048 ⌝ ∗ ⌜ s < 2048 ⌝ }
     ensures { λ r. ⌜ (r .fault ≡ 0) × (r .shape ≡ made) × (r .made ≡ made + 1) ⌝ ∗ ⌜ (now (tops .exit) ≡ set (now (tops .entry)) made t) × (now (belows .exit) ≡ set (now (belows .entry)) made s) × (now (heights .exit) ≡ set (now (heights .entry)) made h) ⌝ }
 {
@@ -50,7 +58,13 @@ pub fn fault(number: u8, made: usize) -> After
 }
 
 // Whether two shapes are the same.
-pub fn same(tops: &[u8; 2048], belows: &[u16; 2048], heights: &[u8; 2048], a: usize, b: usize) -> bool
+pub fn same(
+    tops: &[u8; 2048],
+    belows: &[u16; 2048],
+    heights: &[u8; 2048],
+    a: usize,
+    b: usize,
+) -> bool
     requires { ⌜ a < 2048 ⌝ ∗ ⌜ b < 2048 ⌝ }
     ensures { λ r. ⌜ ((n : ℕ) (A B : Shape) → Fine (pool (now (tops .entry)) (now (belows .entry)) (now (heights .entry)) n) → Shows (pool (now (tops .entry)) (now (belows .entry)) (now (heights .entry)) n) A a → Shows (pool (now (tops .entry)) (now (belows .entry)) (now (heights .entry)) n) B b → r ≡ eqTys A B) ⌝ }
 {

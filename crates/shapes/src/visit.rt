@@ -12,17 +12,24 @@ ghost use Rattle.code.specs.Operand.{targetOf, held};
 ghost use Rattle.shapes.specs.Pool.{Pool, pool, Fine, Shows, Small, Effect};
 ghost use Rattle.shapes.specs.Groups.{jumpBy, targetBy};
 ghost use Rattle.shapes.specs.Found.{Kept, Starts, Met, Went, WentOn, WentBy, Lands, landing, goesOn, jumped};
-use code::operand::Target;
-use code::operand::near_target;
-use code::operand::far_target;
-use super::shape::same;
-use super::shape::fault;
-use super::shape::After;
 use super::effect::test;
 use super::effect::when;
+use super::shape::After;
+use super::shape::fault;
+use super::shape::same;
+use code::operand::Target;
+use code::operand::far_target;
+use code::operand::near_target;
 
 // An arrival: the first brings the shape, every later one must bring the same.
-pub fn meets(tops: &[u8; 2048], belows: &[u16; 2048], heights: &[u8; 2048], found: &mut [u16; 1024], o: usize, s: usize) -> bool
+pub fn meets(
+    tops: &[u8; 2048],
+    belows: &[u16; 2048],
+    heights: &[u8; 2048],
+    found: &mut [u16; 1024],
+    o: usize,
+    s: usize,
+) -> bool
     requires { ⌜ o < 1024 ⌝ ∗ ⌜ s < 2048 ⌝ }
     ensures { λ r. ⌜ ((k n : ℕ) (F : Shapes) (S : Shape) → Fine (pool (now (tops .entry)) (now (belows .entry)) (now (heights .entry)) k) → Kept (pool (now (tops .entry)) (now (belows .entry)) (now (heights .entry)) k) n F (now (found .entry)) → o < n → n ≤ 1024 → Shows (pool (now (tops .entry)) (now (belows .entry)) (now (heights .entry)) k) S s → Met (pool (now (tops .entry)) (now (belows .entry)) (now (heights .entry)) k) n r (now (found .exit)) (meet F o S (getD F o none))) ⌝ }
 {
@@ -66,7 +73,14 @@ pub fn lands(starts: &[u8; 1024], size: usize, op: usize, next: usize, d: u64) -
 }
 
 // The effect of a branch: 33 br, 34 brtrue and brfalse, 35 beq and bne.un, else another comparison.
-pub fn branch(tops: &[u8; 2048], belows: &[u16; 2048], heights: &[u8; 2048], made: usize, s: usize, g: u8) -> After
+pub fn branch(
+    tops: &[u8; 2048],
+    belows: &[u16; 2048],
+    heights: &[u8; 2048],
+    made: usize,
+    s: usize,
+    g: u8,
+) -> After
     requires { ⌜ made < 2048 ⌝ ∗ ⌜ s < 2048 ⌝ }
     ensures { λ r. ⌜ Small r made ⌝ ∗ ⌜ (Effect (pool (now (tops .entry)) (now (belows .entry)) (now (heights .entry)) made) (pool (now (tops .entry)) (now (belows .entry)) (now (heights .entry)) made) r s (jumpEffect (jumpBy g))) ⌝ }
 {
@@ -87,7 +101,15 @@ pub fn branch(tops: &[u8; 2048], belows: &[u16; 2048], heights: &[u8; 2048], mad
 }
 
 // What an instruction that can fall through brings to the next; 17 where there is none.
-pub fn onward(tops: &[u8; 2048], belows: &[u16; 2048], heights: &[u8; 2048], found: &mut [u16; 1024], size: usize, next: usize, s: usize) -> u8
+pub fn onward(
+    tops: &[u8; 2048],
+    belows: &[u16; 2048],
+    heights: &[u8; 2048],
+    found: &mut [u16; 1024],
+    size: usize,
+    next: usize,
+    s: usize,
+) -> u8
     requires { ⌜ size ≤ 1024 ⌝ ∗ ⌜ s < 2048 ⌝ }
     ensures { λ r. ⌜ ((k : ℕ) (F : Shapes) (S : Shape) → Fine (pool (now (tops .entry)) (now (belows .entry)) (now (heights .entry)) k) → Kept (pool (now (tops .entry)) (now (belows .entry)) (now (heights .entry)) k) size F (now (found .entry)) → Shows (pool (now (tops .entry)) (now (belows .entry)) (now (heights .entry)) k) S s → Went (pool (now (tops .entry)) (now (belows .entry)) (now (heights .entry)) k) size r (now (found .exit)) (goesOn size F true next [] S)) ⌝ }
 {
@@ -107,7 +129,20 @@ pub struct Visited {
 }
 
 // A branch: its target, its effect, then the arrivals at the next instruction and at the target.
-pub fn visit_branch(starts: &[u8; 1024], tops: &[u8; 2048], belows: &[u16; 2048], heights: &[u8; 2048], found: &mut [u16; 1024], made: usize, size: usize, s: usize, g: u8, op: usize, next: usize, d: u64) -> u8
+pub fn visit_branch(
+    starts: &[u8; 1024],
+    tops: &[u8; 2048],
+    belows: &[u16; 2048],
+    heights: &[u8; 2048],
+    found: &mut [u16; 1024],
+    made: usize,
+    size: usize,
+    s: usize,
+    g: u8,
+    op: usize,
+    next: usize,
+    d: u64,
+) -> u8
     requires { ⌜ size ≤ 1024 ⌝ ∗ ⌜ made < 2048 ⌝ ∗ ⌜ s < 2048 ⌝ }
     ensures { λ r. ⌜ ((all : List (Site Ins)) (F : Shapes) (S : Shape) → Starts all size (now (starts .entry)) → Fine (pool (now (tops .entry)) (now (belows .entry)) (now (heights .entry)) made) → Kept (pool (now (tops .entry)) (now (belows .entry)) (now (heights .entry)) made) size F (now (found .entry)) → Shows (pool (now (tops .entry)) (now (belows .entry)) (now (heights .entry)) made) S s → WentBy (pool (now (tops .entry)) (now (belows .entry)) (now (heights .entry)) made) size r (now (found .exit)) (jumped size F (jumpBy g) next S) (landing all size (targetBy op next d))) ⌝ }
 {
@@ -132,7 +167,15 @@ pub fn visit_branch(starts: &[u8; 1024], tops: &[u8; 2048], belows: &[u16; 2048]
 }
 
 // 16 where the shape found is another, else what follows.
-fn arrives(tops: &[u8; 2048], belows: &[u16; 2048], heights: &[u8; 2048], found: &mut [u16; 1024], o: usize, s: usize, after: u8) -> u8
+fn arrives(
+    tops: &[u8; 2048],
+    belows: &[u16; 2048],
+    heights: &[u8; 2048],
+    found: &mut [u16; 1024],
+    o: usize,
+    s: usize,
+    after: u8,
+) -> u8
     requires { ⌜ o < 1024 ⌝ ∗ ⌜ s < 2048 ⌝ }
     ensures { λ r. ⌜ ((k n : ℕ) (F : Shapes) (S : Shape) → Fine (pool (now (tops .entry)) (now (belows .entry)) (now (heights .entry)) k) → Kept (pool (now (tops .entry)) (now (belows .entry)) (now (heights .entry)) k) n F (now (found .entry)) → o < n → n ≤ 1024 → Shows (pool (now (tops .entry)) (now (belows .entry)) (now (heights .entry)) k) S s → WentOn (pool (now (tops .entry)) (now (belows .entry)) (now (heights .entry)) k) n r (now (found .exit)) after (meet F o S (getD F o none))) ⌝ }
 {

@@ -17,6 +17,7 @@ use Rattle.shapes.proofs.shape.fault.Reads as fault-reads
 -- begin
 abbrev P0 : tie.Start → Pool
 P0 c = pool (c .args .tops .now) (c .args .belows .now) (c .args .heights .now) (c .args .made)
+
 -- end
 
 element-copy-out-if1 : tie.Need-element-copy-out-if1
@@ -42,23 +43,27 @@ takes-requires : tie.Need-takes-requires
 takes-requires c κs = search needs
 
 returns-2 : tie.Need-returns-2
-returns-2 c =
-    (search needs, λ f S w.
-        let o = two (P0 (c .before .before .before .before .before .before .before)) S (c .before .before .before .before .before .before .before .args .s) f (c .before .before .before .before .before .if1 .left) w in
-        leaves (P0 (c .before .before .before .before .before .before .before)) (record { fault = 0; shape = c .before .before .before .before .below .result; made = c .before .before .before .before .before .before .before .args .made }) (o .next ∷ o .rest) (binaryEffect (c .before .before .before .before .before .before .before .args .which) S)
-        (binary-right _ (o .top) (o .next) S (o .rest) (o .is) (sym (c .if2 .taken) ∙ c .before .takes .ensures (o .next) (o .top) (o .next-byte _ (c .before .before .before .before .below .ensures .1)) (o .byte)))
-        refl refl (o .below _ (c .before .before .before .before .below .ensures .1)) f)
+returns-2 c = (
+  search needs,
+  λ f S w.
+      let o = two (P0 (c .before .before .before .before .before .before .before)) S (c .before .before .before .before .before .before .before .args .s) f (c .before .before .before .before .before .if1 .left) w in
+      leaves (P0 (c .before .before .before .before .before .before .before)) (record { fault = 0; shape = c .before .before .before .before .below .result; made = c .before .before .before .before .before .before .before .args .made }) (o .next ∷ o .rest) (binaryEffect (c .before .before .before .before .before .before .before .args .which) S)
+      (binary-right _ (o .top) (o .next) S (o .rest) (o .is) (sym (c .if2 .taken) ∙ c .before .takes .ensures (o .next) (o .top) (o .next-byte _ (c .before .before .before .before .below .ensures .1)) (o .byte)))
+      refl refl (o .below _ (c .before .before .before .before .below .ensures .1)) f,
+)
 
 fault-requires-2 : tie.Need-fault-requires-2
 fault-requires-2 c κs = search needs
 
 returns-3 : tie.Need-returns-3
-returns-3 c =
-    (search needs, λ f S w.
-        let o = two (P0 (c .before .before .before .before .before .before .before .before)) S (c .before .before .before .before .before .before .before .before .args .s) f (c .before .before .before .before .before .before .if1 .left) w in
-        refuses (P0 (c .before .before .before .before .before .before .before .before)) (c .fault2 .result) 15 (binaryEffect (c .before .before .before .before .before .before .before .before .args .which) S)
-        (binary-wrong _ (o .top) (o .next) S (o .rest) (o .is) (sym (c .before .if2 .left) ∙ c .before .before .takes .ensures (o .next) (o .top) (o .next-byte _ (c .before .before .before .before .before .below .ensures .1)) (o .byte)))
-        (omega arith) (c .fault2 .ensures) f)
+returns-3 c = (
+  search needs,
+  λ f S w.
+      let o = two (P0 (c .before .before .before .before .before .before .before .before)) S (c .before .before .before .before .before .before .before .before .args .s) f (c .before .before .before .before .before .before .if1 .left) w in
+      refuses (P0 (c .before .before .before .before .before .before .before .before)) (c .fault2 .result) 15 (binaryEffect (c .before .before .before .before .before .before .before .before .args .which) S)
+      (binary-wrong _ (o .top) (o .next) S (o .rest) (o .is) (sym (c .before .if2 .left) ∙ c .before .before .takes .ensures (o .next) (o .top) (o .next-byte _ (c .before .before .before .before .before .below .ensures .1)) (o .byte)))
+      (omega arith) (c .fault2 .ensures) f,
+)
 
 pub binary-spec : {M : Type 1} → statement M
 binary-spec =

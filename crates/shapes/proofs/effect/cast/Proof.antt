@@ -18,6 +18,7 @@ use Rattle.shapes.proofs.shape.put.Reads as put-reads
 -- begin
 abbrev P0 : tie.Start → Pool
 P0 c = pool (c .args .tops .now) (c .args .belows .now) (c .args .heights .now) (c .args .made)
+
 -- end
 
 -- src/effect.rt:121:13
@@ -51,12 +52,14 @@ put-requires c κs = search needs
 
 -- src/effect.rt:127:9
 returns-2 : tie.Need-returns-2
-returns-2 c =
-    (search needs, λ k q f S w.
-        let o = one (P0 (c .before .before .before .before .before .before .before .before .before .before .before)) S (c .before .before .before .before .before .before .before .before .before .before .before .args .s) f (c .before .before .before .before .before .before .before .before .before .if1 .left) w in
-        brings (P0 (c .before .before .before .before .before .before .before .before .before .before .before)) (c .put .result) _ _ _ (class k) (o .rest) (castEffect k S) _ _ _
-        (cast-right k (o .top) S (o .rest) (o .is) (sym (c .before .before .before .before .before .before .if2 .taken) ∙ c .before .before .before .before .before .before .before .kind-of .ensures (o .top) (o .byte)))
-        (search needs) (c .put .ensures) q (o .height) (o .below _ (c .before .before .before .before .below .ensures .1)) f)
+returns-2 c = (
+  search needs,
+  λ k q f S w.
+      let o = one (P0 (c .before .before .before .before .before .before .before .before .before .before .before)) S (c .before .before .before .before .before .before .before .before .before .before .before .args .s) f (c .before .before .before .before .before .before .before .before .before .if1 .left) w in
+      brings (P0 (c .before .before .before .before .before .before .before .before .before .before .before)) (c .put .result) _ _ _ (class k) (o .rest) (castEffect k S) _ _ _
+      (cast-right k (o .top) S (o .rest) (o .is) (sym (c .before .before .before .before .before .before .if2 .taken) ∙ c .before .before .before .before .before .before .before .kind-of .ensures (o .top) (o .byte)))
+      (search needs) (c .put .ensures) q (o .height) (o .below _ (c .before .before .before .before .below .ensures .1)) f,
+)
 
 -- src/effect.rt:129:5
 fault-requires-2 : tie.Need-fault-requires-2
@@ -64,10 +67,12 @@ fault-requires-2 c κs = search needs
 
 -- src/effect.rt:117:1
 returns-3 : tie.Need-returns-3
-returns-3 c =
-    (search needs, λ k q f S w.
-        let o = one (P0 (c .before .before .before .before .before .before)) S (c .before .before .before .before .before .before .args .s) f (c .before .before .before .before .if1 .left) w in
-        refuses (P0 (c .before .before .before .before .before .before)) (c .fault2 .result) 15 (castEffect k S) (cast-wrong k (o .top) S (o .rest) (o .is) (λ z. c .before .if2 .left (c .before .before .kind-of .ensures (o .top) (o .byte) ∙ z))) (omega arith) (c .fault2 .ensures) f)
+returns-3 c = (
+  search needs,
+  λ k q f S w.
+      let o = one (P0 (c .before .before .before .before .before .before)) S (c .before .before .before .before .before .before .args .s) f (c .before .before .before .before .if1 .left) w in
+      refuses (P0 (c .before .before .before .before .before .before)) (c .fault2 .result) 15 (castEffect k S) (cast-wrong k (o .top) S (o .rest) (o .is) (λ z. c .before .if2 .left (c .before .before .kind-of .ensures (o .top) (o .byte) ∙ z))) (omega arith) (c .fault2 .ensures) f,
+)
 
 pub cast-spec : {M : Type 1} → statement M
 cast-spec =

@@ -20,6 +20,7 @@ use Rattle.shapes.proofs.shape.put.Reads as put-reads
 -- begin
 abbrev P0 : tie.Start → Pool
 P0 c = pool (c .args .tops .now) (c .args .belows .now) (c .args .heights .now) (c .args .made)
+
 -- end
 
 element-copy-out-h : tie.Need-element-copy-out-h
@@ -54,23 +55,27 @@ put-requires : tie.Need-put-requires
 put-requires c κs = search needs
 
 returns-2 : tie.Need-returns-2
-returns-2 c =
-    (search needs, λ f S w.
-        let o = two (P0 (c .before .before .before .before .before .before .before .before .before .before .before .before .before .before)) S (c .before .before .before .before .before .before .before .before .before .before .before .before .before .before .args .s) f (c .before .before .before .before .before .before .before .before .before .before .before .before .if1 .left) w in
-        brings (P0 (c .before .before .before .before .before .before .before .before .before .before .before .before .before .before)) (c .put .result) _ _ _ int32 (o .rest) (compareEffect (c .before .before .before .before .before .before .before .before .before .before .before .before .before .before .args .which) S) _ _ _
-        (compare-right _ (o .top) (o .next) S (o .rest) (o .is) (sym (c .before .before .before .before .before .before .if2 .taken) ∙ c .before .before .before .before .before .before .before .takes .ensures (o .next) (o .top) (o .next-byte _ (c .before .before .before .before .before .before .before .before .before .before .below .ensures .1)) (o .byte)))
-        (search needs) (c .put .ensures) byte-1 (less-one _ _ (o .height)) (o .deep _ _ (c .before .before .before .before .before .before .before .before .before .before .below .ensures .1) (c .before .before .before .before .below2 .ensures .1)) f)
+returns-2 c = (
+  search needs,
+  λ f S w.
+      let o = two (P0 (c .before .before .before .before .before .before .before .before .before .before .before .before .before .before)) S (c .before .before .before .before .before .before .before .before .before .before .before .before .before .before .args .s) f (c .before .before .before .before .before .before .before .before .before .before .before .before .if1 .left) w in
+      brings (P0 (c .before .before .before .before .before .before .before .before .before .before .before .before .before .before)) (c .put .result) _ _ _ int32 (o .rest) (compareEffect (c .before .before .before .before .before .before .before .before .before .before .before .before .before .before .args .which) S) _ _ _
+      (compare-right _ (o .top) (o .next) S (o .rest) (o .is) (sym (c .before .before .before .before .before .before .if2 .taken) ∙ c .before .before .before .before .before .before .before .takes .ensures (o .next) (o .top) (o .next-byte _ (c .before .before .before .before .before .before .before .before .before .before .below .ensures .1)) (o .byte)))
+      (search needs) (c .put .ensures) byte-1 (less-one _ _ (o .height)) (o .deep _ _ (c .before .before .before .before .before .before .before .before .before .before .below .ensures .1) (c .before .before .before .before .below2 .ensures .1)) f,
+)
 
 fault-requires-2 : tie.Need-fault-requires-2
 fault-requires-2 c κs = search needs
 
 returns-3 : tie.Need-returns-3
-returns-3 c =
-    (search needs, λ f S w.
-        let o = two (P0 (c .before .before .before .before .before .before .before .before .before)) S (c .before .before .before .before .before .before .before .before .before .args .s) f (c .before .before .before .before .before .before .before .if1 .left) w in
-        refuses (P0 (c .before .before .before .before .before .before .before .before .before)) (c .fault2 .result) 15 (compareEffect (c .before .before .before .before .before .before .before .before .before .args .which) S)
-        (compare-wrong _ (o .top) (o .next) S (o .rest) (o .is) (sym (c .before .if2 .left) ∙ c .before .before .takes .ensures (o .next) (o .top) (o .next-byte _ (c .before .before .before .before .before .below .ensures .1)) (o .byte)))
-        (omega arith) (c .fault2 .ensures) f)
+returns-3 c = (
+  search needs,
+  λ f S w.
+      let o = two (P0 (c .before .before .before .before .before .before .before .before .before)) S (c .before .before .before .before .before .before .before .before .before .args .s) f (c .before .before .before .before .before .before .before .if1 .left) w in
+      refuses (P0 (c .before .before .before .before .before .before .before .before .before)) (c .fault2 .result) 15 (compareEffect (c .before .before .before .before .before .before .before .before .before .args .which) S)
+      (compare-wrong _ (o .top) (o .next) S (o .rest) (o .is) (sym (c .before .if2 .left) ∙ c .before .before .takes .ensures (o .next) (o .top) (o .next-byte _ (c .before .before .before .before .before .below .ensures .1)) (o .byte)))
+      (omega arith) (c .fault2 .ensures) f,
+)
 
 pub compare-spec : {M : Type 1} → statement M
 compare-spec =

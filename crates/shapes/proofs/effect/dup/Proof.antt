@@ -16,6 +16,7 @@ use Rattle.shapes.proofs.shape.fault.Reads as fault-reads
 -- begin
 abbrev P0 : tie.Start → Pool
 P0 c = pool (c .args .tops .now) (c .args .belows .now) (c .args .heights .now) (c .args .made)
+
 -- end
 
 -- src/effect.rt:41:8
@@ -41,10 +42,12 @@ push-requires c κs = search needs
 
 -- src/effect.rt:37:1
 returns-2 : tie.Need-returns-2
-returns-2 c =
-    (c .push .ensures .0, λ M m e f S w.
-        let o = one (P0 (c .before .before .before .before .before .before .before)) S (c .before .before .before .before .before .before .before .args .s) f (c .before .before .before .before .before .if1 .left) w in
-        told _ _ _ (plainEffect M m dup S) (pushes m (o .top) S) (dup-is M m S (o .rest) (o .top) (o .is)) (c .push .ensures .1 m (o .top) e (o .byte) f S w))
+returns-2 c = (
+  c .push .ensures .0,
+  λ M m e f S w.
+      let o = one (P0 (c .before .before .before .before .before .before .before)) S (c .before .before .before .before .before .before .before .args .s) f (c .before .before .before .before .before .if1 .left) w in
+      told _ _ _ (plainEffect M m dup S) (pushes m (o .top) S) (dup-is M m S (o .rest) (o .top) (o .is)) (c .push .ensures .1 m (o .top) e (o .byte) f S w),
+)
 
 pub dup-spec : {M : Type 1} → statement M
 dup-spec =

@@ -19,6 +19,7 @@ use Rattle.shapes.proofs.shape.put.Reads as put-reads
 -- begin
 abbrev P0 : tie.Start → Pool
 P0 c = pool (c .args .tops .now) (c .args .belows .now) (c .args .heights .now) (c .args .made)
+
 -- end
 
 element-copy-out-h : tie.Need-element-copy-out-h
@@ -44,21 +45,25 @@ put-requires : tie.Need-put-requires
 put-requires c κs = search needs
 
 returns-2 : tie.Need-returns-2
-returns-2 c =
-    (search needs, λ M m d p e q f S w.
-        let o = one (P0 (c .before .before .before .before .before .before .before .before .before .before .before)) S (c .before .before .before .before .before .before .before .before .before .before .before .args .s) f (c .before .before .before .before .before .before .before .before .before .if1 .left) w in
-        brings (P0 (c .before .before .before .before .before .before .before .before .before .before .before)) (c .put .result) _ _ _ (d .type) (o .rest) (effect M m (Act.ldfld 0 d) S) _ _ _
-        (ldfld-right M m d (o .top) S (o .rest) (o .is) (sym (c .before .before .before .before .before .before .if2 .taken) ∙ c .before .before .before .before .before .before .before .fits2 .ensures (M .parents) (o .top) (class (d .owner)) p (o .byte) e))
-        (search needs) (c .put .ensures) q (o .height) (o .below _ (c .before .before .before .before .below .ensures .1)) f)
+returns-2 c = (
+  search needs,
+  λ M m d p e q f S w.
+      let o = one (P0 (c .before .before .before .before .before .before .before .before .before .before .before)) S (c .before .before .before .before .before .before .before .before .before .before .before .args .s) f (c .before .before .before .before .before .before .before .before .before .if1 .left) w in
+      brings (P0 (c .before .before .before .before .before .before .before .before .before .before .before)) (c .put .result) _ _ _ (d .type) (o .rest) (effect M m (Act.ldfld 0 d) S) _ _ _
+      (ldfld-right M m d (o .top) S (o .rest) (o .is) (sym (c .before .before .before .before .before .before .if2 .taken) ∙ c .before .before .before .before .before .before .before .fits2 .ensures (M .parents) (o .top) (class (d .owner)) p (o .byte) e))
+      (search needs) (c .put .ensures) q (o .height) (o .below _ (c .before .before .before .before .below .ensures .1)) f,
+)
 
 fault-requires-2 : tie.Need-fault-requires-2
 fault-requires-2 c κs = search needs
 
 returns-3 : tie.Need-returns-3
-returns-3 c =
-    (search needs, λ M m d p e q f S w.
-        let o = one (P0 (c .before .before .before .before .before .before)) S (c .before .before .before .before .before .before .args .s) f (c .before .before .before .before .if1 .left) w in
-        refuses (P0 (c .before .before .before .before .before .before)) (c .fault2 .result) 15 (effect M m (Act.ldfld 0 d) S) (ldfld-wrong M m d (o .top) S (o .rest) (o .is) (sym (c .before .if2 .left) ∙ c .before .before .fits2 .ensures (M .parents) (o .top) (class (d .owner)) p (o .byte) e)) (omega arith) (c .fault2 .ensures) f)
+returns-3 c = (
+  search needs,
+  λ M m d p e q f S w.
+      let o = one (P0 (c .before .before .before .before .before .before)) S (c .before .before .before .before .before .before .args .s) f (c .before .before .before .before .if1 .left) w in
+      refuses (P0 (c .before .before .before .before .before .before)) (c .fault2 .result) 15 (effect M m (Act.ldfld 0 d) S) (ldfld-wrong M m d (o .top) S (o .rest) (o .is) (sym (c .before .if2 .left) ∙ c .before .before .fits2 .ensures (M .parents) (o .top) (class (d .owner)) p (o .byte) e)) (omega arith) (c .fault2 .ensures) f,
+)
 
 pub ldfld-spec : {M : Type 1} → statement M
 ldfld-spec =

@@ -18,6 +18,7 @@ use Rattle.shapes.proofs.shape.fault.Reads as fault-reads
 -- begin
 abbrev P0 : tie.Start → List ℕ → Pool
 P0 c l = pool l (c .args .belows .now) (c .args .heights .now) (c .args .made)
+
 -- end
 
 -- src/effect.rt:52:8
@@ -39,10 +40,12 @@ below-requires c κs = search needs
 
 -- src/effect.rt:48:1
 returns-2 : tie.Need-returns-2
-returns-2 c =
-    (search needs, λ l M m f S w.
-        let o = one (P0 (c .before .before .before) l) S (c .before .before .before .args .s) f (c .before .if1 .left) w in
-        leaves (P0 (c .before .before .before) l) (record { fault = 0; shape = c .below .result; made = c .before .before .before .args .made }) (o .rest) (plainEffect M m pop S) (pop-is M m S (o .rest) (o .top) (o .is)) refl refl (o .below _ (c .below .ensures .1)) f)
+returns-2 c = (
+  search needs,
+  λ l M m f S w.
+      let o = one (P0 (c .before .before .before) l) S (c .before .before .before .args .s) f (c .before .if1 .left) w in
+      leaves (P0 (c .before .before .before) l) (record { fault = 0; shape = c .below .result; made = c .before .before .before .args .made }) (o .rest) (plainEffect M m pop S) (pop-is M m S (o .rest) (o .top) (o .is)) refl refl (o .below _ (c .below .ensures .1)) f,
+)
 
 pub pop-spec : {M : Type 1} → statement M
 pop-spec =

@@ -57,15 +57,20 @@ loop-less c =
     omega arith
 
 loop-again : tie.Need-loop-again Inv-loop μ-loop
-loop-again c =
-    (omega arith, c .below .ensures .0, λ k h ps ts S p t e l f w.
-        popping-next (pool (c .before .before .before .before .before .before .before .args .tops .now) (c .before .before .before .before .before .before .before .args .belows .now) h k) ps (c .before .before .before .before .before .before .before .args .types .now) ts S _ _ _ (c .before .before .before .before .before .before .before .args .from) _ f (stepped (pool (c .before .before .before .before .before .before .before .args .tops .now) (c .before .before .before .before .before .before .before .args .belows .now) h k) ps ts S _ _ _ (c .before .before .before .before .before .loop-test .taken) (c .before .before .before .before .before .before .loop .inv .2 k h ps ts S p t e l f w)) t (omega arith) (λ A B y z. c .before .before .fits2 .ensures ps A B p y z) _ (c .before .if1 .taken) (c .below .ensures .1))
+loop-again c = (
+  omega arith,
+  c .below .ensures .0,
+  λ k h ps ts S p t e l f w.
+      popping-next (pool (c .before .before .before .before .before .before .before .args .tops .now) (c .before .before .before .before .before .before .before .args .belows .now) h k) ps (c .before .before .before .before .before .before .before .args .types .now) ts S _ _ _ (c .before .before .before .before .before .before .before .args .from) _ f (stepped (pool (c .before .before .before .before .before .before .before .args .tops .now) (c .before .before .before .before .before .before .before .args .belows .now) h k) ps ts S _ _ _ (c .before .before .before .before .before .loop-test .taken) (c .before .before .before .before .before .before .loop .inv .2 k h ps ts S p t e l f w)) t (omega arith) (λ A B y z. c .before .before .fits2 .ensures ps A B p y z) _ (c .before .if1 .taken) (c .below .ensures .1),
+)
 
 returns : tie.Need-returns Inv-loop μ-loop
-returns c =
-    (search needs, λ k h ps ts S p t e l f w.
-        popped-wrong (pool (c .before .before .before .before .before .before .args .tops .now) (c .before .before .before .before .before .before .args .belows .now) h k) ps ts S _ e l
-        (popping-wrong (pool (c .before .before .before .before .before .before .args .tops .now) (c .before .before .before .before .before .before .args .belows .now) h k) ps (c .before .before .before .before .before .before .args .types .now) ts S _ _ _ (c .before .before .before .before .before .before .args .from) _ f (stepped (pool (c .before .before .before .before .before .before .args .tops .now) (c .before .before .before .before .before .before .args .belows .now) h k) ps ts S _ _ _ (c .before .before .before .before .loop-test .taken) (c .before .before .before .before .before .loop .inv .2 k h ps ts S p t e l f w)) t (omega arith) (λ A B y z. c .before .fits2 .ensures ps A B p y z) (c .if1 .left)))
+returns c = (
+  search needs,
+  λ k h ps ts S p t e l f w.
+      popped-wrong (pool (c .before .before .before .before .before .before .args .tops .now) (c .before .before .before .before .before .before .args .belows .now) h k) ps ts S _ e l
+      (popping-wrong (pool (c .before .before .before .before .before .before .args .tops .now) (c .before .before .before .before .before .before .args .belows .now) h k) ps (c .before .before .before .before .before .before .args .types .now) ts S _ _ _ (c .before .before .before .before .before .before .args .from) _ f (stepped (pool (c .before .before .before .before .before .before .args .tops .now) (c .before .before .before .before .before .before .args .belows .now) h k) ps ts S _ _ _ (c .before .before .before .before .loop-test .taken) (c .before .before .before .before .before .loop .inv .2 k h ps ts S p t e l f w)) t (omega arith) (λ A B y z. c .before .fits2 .ensures ps A B p y z) (c .if1 .left)),
+)
 
 returns-2 : tie.Need-returns-2 Inv-loop μ-loop
 returns-2 c =

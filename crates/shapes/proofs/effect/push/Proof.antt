@@ -18,6 +18,7 @@ use Rattle.shapes.proofs.shape.put.Reads as put-reads
 -- begin
 abbrev P0 : tie.Start → Pool
 P0 c = pool (c .args .tops .now) (c .args .belows .now) (c .args .heights .now) (c .args .made)
+
 -- end
 
 -- src/effect.rt:30:13

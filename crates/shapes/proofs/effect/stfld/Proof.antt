@@ -18,6 +18,7 @@ use Rattle.shapes.proofs.shape.fault.Reads as fault-reads
 -- begin
 abbrev P0 : tie.Start → Pool
 P0 c = pool (c .args .tops .now) (c .args .belows .now) (c .args .heights .now) (c .args .made)
+
 -- end
 
 element-copy-out-if1 : tie.Need-element-copy-out-if1
@@ -49,39 +50,45 @@ below-requires-2 : tie.Need-below-requires-2
 below-requires-2 c κs = search needs
 
 returns-2 : tie.Need-returns-2
-returns-2 c =
-    (search needs, λ M m d p e q f S w.
-        let o = two (P0 (c .before .before .before .before .before .before .before .before .before .before)) S (c .before .before .before .before .before .before .before .before .before .before .args .s) f (c .before .before .before .before .before .before .before .before .if1 .left) w in
-        leaves (P0 (c .before .before .before .before .before .before .before .before .before .before)) (record { fault = 0; shape = c .below2 .result; made = c .before .before .before .before .before .before .before .before .before .before .args .made }) (o .rest) (effect M m (Act.stfld 0 d) S)
-        (stfld-right M m d (o .top) (o .next) S (o .rest) (o .is)
-          (sym (c .before .before .before .before .if2 .taken) ∙ c .before .before .before .before .before .fits2 .ensures (M .parents) (o .next) (class (d .owner)) p (o .next-byte _ (c .before .before .before .before .before .before .before .below .ensures .1)) e)
-          (sym (c .before .if3 .taken) ∙ c .before .before .fits3 .ensures (M .parents) (o .top) (d .type) p (o .byte) q))
-        refl refl (o .deep _ _ (c .before .before .before .before .before .before .before .below .ensures .1) (c .below2 .ensures .1)) f)
+returns-2 c = (
+  search needs,
+  λ M m d p e q f S w.
+      let o = two (P0 (c .before .before .before .before .before .before .before .before .before .before)) S (c .before .before .before .before .before .before .before .before .before .before .args .s) f (c .before .before .before .before .before .before .before .before .if1 .left) w in
+      leaves (P0 (c .before .before .before .before .before .before .before .before .before .before)) (record { fault = 0; shape = c .below2 .result; made = c .before .before .before .before .before .before .before .before .before .before .args .made }) (o .rest) (effect M m (Act.stfld 0 d) S)
+      (stfld-right M m d (o .top) (o .next) S (o .rest) (o .is)
+      (sym (c .before .before .before .before .if2 .taken) ∙ c .before .before .before .before .before .fits2 .ensures (M .parents) (o .next) (class (d .owner)) p (o .next-byte _ (c .before .before .before .before .before .before .before .below .ensures .1)) e)
+      (sym (c .before .if3 .taken) ∙ c .before .before .fits3 .ensures (M .parents) (o .top) (d .type) p (o .byte) q))
+      refl refl (o .deep _ _ (c .before .before .before .before .before .before .before .below .ensures .1) (c .below2 .ensures .1)) f,
+)
 
 fault-requires-2 : tie.Need-fault-requires-2
 fault-requires-2 c κs = search needs
 
 returns-3 : tie.Need-returns-3
-returns-3 c =
-    (search needs, λ M m d p e q f S w.
-        let o = two (P0 (c .before .before .before .before .before .before .before .before .before .before)) S (c .before .before .before .before .before .before .before .before .before .before .args .s) f (c .before .before .before .before .before .before .before .before .if1 .left) w in
-        refuses (P0 (c .before .before .before .before .before .before .before .before .before .before)) (c .fault2 .result) 15 (effect M m (Act.stfld 0 d) S)
-        (stfld-wrong-top M m d (o .top) (o .next) S (o .rest) (o .is)
-          (sym (c .before .before .before .before .if2 .taken) ∙ c .before .before .before .before .before .fits2 .ensures (M .parents) (o .next) (class (d .owner)) p (o .next-byte _ (c .before .before .before .before .before .before .before .below .ensures .1)) e)
-          (sym (c .before .if3 .left) ∙ c .before .before .fits3 .ensures (M .parents) (o .top) (d .type) p (o .byte) q))
-        (omega arith) (c .fault2 .ensures) f)
+returns-3 c = (
+  search needs,
+  λ M m d p e q f S w.
+      let o = two (P0 (c .before .before .before .before .before .before .before .before .before .before)) S (c .before .before .before .before .before .before .before .before .before .before .args .s) f (c .before .before .before .before .before .before .before .before .if1 .left) w in
+      refuses (P0 (c .before .before .before .before .before .before .before .before .before .before)) (c .fault2 .result) 15 (effect M m (Act.stfld 0 d) S)
+      (stfld-wrong-top M m d (o .top) (o .next) S (o .rest) (o .is)
+      (sym (c .before .before .before .before .if2 .taken) ∙ c .before .before .before .before .before .fits2 .ensures (M .parents) (o .next) (class (d .owner)) p (o .next-byte _ (c .before .before .before .before .before .before .before .below .ensures .1)) e)
+      (sym (c .before .if3 .left) ∙ c .before .before .fits3 .ensures (M .parents) (o .top) (d .type) p (o .byte) q))
+      (omega arith) (c .fault2 .ensures) f,
+)
 
 fault-requires-3 : tie.Need-fault-requires-3
 fault-requires-3 c κs = search needs
 
 returns-4 : tie.Need-returns-4
-returns-4 c =
-    (search needs, λ M m d p e q f S w.
-        let o = two (P0 (c .before .before .before .before .before .before .before)) S (c .before .before .before .before .before .before .before .args .s) f (c .before .before .before .before .before .if1 .left) w in
-        refuses (P0 (c .before .before .before .before .before .before .before)) (c .fault3 .result) 15 (effect M m (Act.stfld 0 d) S)
-        (stfld-wrong M m d (o .top) (o .next) S (o .rest) (o .is)
-          (sym (c .before .if2 .left) ∙ c .before .before .fits2 .ensures (M .parents) (o .next) (class (d .owner)) p (o .next-byte _ (c .before .before .before .before .below .ensures .1)) e))
-        (omega arith) (c .fault3 .ensures) f)
+returns-4 c = (
+  search needs,
+  λ M m d p e q f S w.
+      let o = two (P0 (c .before .before .before .before .before .before .before)) S (c .before .before .before .before .before .before .before .args .s) f (c .before .before .before .before .before .if1 .left) w in
+      refuses (P0 (c .before .before .before .before .before .before .before)) (c .fault3 .result) 15 (effect M m (Act.stfld 0 d) S)
+      (stfld-wrong M m d (o .top) (o .next) S (o .rest) (o .is)
+      (sym (c .before .if2 .left) ∙ c .before .before .fits2 .ensures (M .parents) (o .next) (class (d .owner)) p (o .next-byte _ (c .before .before .before .before .below .ensures .1)) e))
+      (omega arith) (c .fault3 .ensures) f,
+)
 
 pub stfld-spec : {M : Type 1} → statement M
 stfld-spec =

@@ -16,6 +16,7 @@ use Rattle.shapes.proofs.shape.fault.Reads as fault-reads
 -- begin
 abbrev P0 : tie.Start → Pool
 P0 c = pool (c .args .tops .now) (c .args .belows .now) (c .args .heights .now) (c .args .made)
+
 -- end
 
 element-copy-out-if1 : tie.Need-element-copy-out-if1
@@ -38,20 +39,24 @@ below-requires : tie.Need-below-requires
 below-requires c κs = search needs
 
 returns-2 : tie.Need-returns-2
-returns-2 c =
-    (search needs, λ M u p e f S w.
-        let o = one (P0 (c .before .before .before .before .before .before)) S (c .before .before .before .before .before .before .args .s) f (c .before .before .before .before .if1 .left) w in
-        leaves (P0 (c .before .before .before .before .before .before)) (record { fault = 0; shape = c .below .result; made = c .before .before .before .before .before .before .args .made }) (o .rest) (popsOne M u S)
-        (store-right M u (o .top) S (o .rest) (o .is) (sym (c .before .if2 .taken) ∙ c .before .before .fits2 .ensures (M .parents) (o .top) u p (o .byte) e)) refl refl (o .below _ (c .below .ensures .1)) f)
+returns-2 c = (
+  search needs,
+  λ M u p e f S w.
+      let o = one (P0 (c .before .before .before .before .before .before)) S (c .before .before .before .before .before .before .args .s) f (c .before .before .before .before .if1 .left) w in
+      leaves (P0 (c .before .before .before .before .before .before)) (record { fault = 0; shape = c .below .result; made = c .before .before .before .before .before .before .args .made }) (o .rest) (popsOne M u S)
+      (store-right M u (o .top) S (o .rest) (o .is) (sym (c .before .if2 .taken) ∙ c .before .before .fits2 .ensures (M .parents) (o .top) u p (o .byte) e)) refl refl (o .below _ (c .below .ensures .1)) f,
+)
 
 fault-requires-2 : tie.Need-fault-requires-2
 fault-requires-2 c κs = search needs
 
 returns-3 : tie.Need-returns-3
-returns-3 c =
-    (search needs, λ M u p e f S w.
-        let o = one (P0 (c .before .before .before .before .before .before)) S (c .before .before .before .before .before .before .args .s) f (c .before .before .before .before .if1 .left) w in
-        refuses (P0 (c .before .before .before .before .before .before)) (c .fault2 .result) 15 (popsOne M u S) (store-wrong M u (o .top) S (o .rest) (o .is) (sym (c .before .if2 .left) ∙ c .before .before .fits2 .ensures (M .parents) (o .top) u p (o .byte) e)) (omega arith) (c .fault2 .ensures) f)
+returns-3 c = (
+  search needs,
+  λ M u p e f S w.
+      let o = one (P0 (c .before .before .before .before .before .before)) S (c .before .before .before .before .before .before .args .s) f (c .before .before .before .before .if1 .left) w in
+      refuses (P0 (c .before .before .before .before .before .before)) (c .fault2 .result) 15 (popsOne M u S) (store-wrong M u (o .top) S (o .rest) (o .is) (sym (c .before .if2 .left) ∙ c .before .before .fits2 .ensures (M .parents) (o .top) u p (o .byte) e)) (omega arith) (c .fault2 .ensures) f,
+)
 
 pub store-spec : {M : Type 1} → statement M
 store-spec =

@@ -16,6 +16,7 @@ use Rattle.shapes.proofs.shape.fault.Reads as fault-reads
 -- begin
 abbrev P0 : tie.Start → Pool
 P0 c = pool (c .args .tops .now) (c .args .belows .now) (c .args .heights .now) (c .args .made)
+
 -- end
 
 -- src/effect.rt:208:8
@@ -45,10 +46,12 @@ fault-requires-2 c κs = search needs
 
 -- src/effect.rt:212:9
 returns-2 : tie.Need-returns-2
-returns-2 c =
-    (search needs, λ f S w.
-        let o = one (P0 (c .before .before .before .before .before .before)) S (c .before .before .before .before .before .before .args .s) f (c .before .before .before .before .if1 .left) w in
-        settled (P0 (c .before .before .before .before .before .before)) (c .fault2 .result) _ (c .fault2 .ensures .2) (refuses (P0 (c .before .before .before .before .before .before)) (c .fault2 .result) 15 (testEffect S) (test-wrong (o .top) S (o .rest) (o .is) (sym (c .before .before .kind-of .ensures (o .top) (o .byte)) ∙ c .before .if2 .taken)) (omega arith) (c .fault2 .ensures) f))
+returns-2 c = (
+  search needs,
+  λ f S w.
+      let o = one (P0 (c .before .before .before .before .before .before)) S (c .before .before .before .before .before .before .args .s) f (c .before .before .before .before .if1 .left) w in
+      settled (P0 (c .before .before .before .before .before .before)) (c .fault2 .result) _ (c .fault2 .ensures .2) (refuses (P0 (c .before .before .before .before .before .before)) (c .fault2 .result) 15 (testEffect S) (test-wrong (o .top) S (o .rest) (o .is) (sym (c .before .before .kind-of .ensures (o .top) (o .byte)) ∙ c .before .if2 .taken)) (omega arith) (c .fault2 .ensures) f),
+)
 
 -- src/effect.rt:216:16
 below-requires : tie.Need-below-requires
@@ -56,11 +59,13 @@ below-requires c κs = search needs
 
 -- src/effect.rt:204:1
 returns-3 : tie.Need-returns-3
-returns-3 c =
-    (search needs, λ f S w.
-        let o = one (P0 (c .before .before .before .before .before .before)) S (c .before .before .before .before .before .before .args .s) f (c .before .before .before .before .if1 .left) w in
-        leaves (P0 (c .before .before .before .before .before .before)) (record { fault = 0; shape = c .below .result; made = c .before .before .before .before .before .before .args .made }) (o .rest) (testEffect S)
-        (test-right (o .top) S (o .rest) (o .is) (λ z. c .before .if2 .left (c .before .before .kind-of .ensures (o .top) (o .byte) ∙ z))) refl refl (o .below _ (c .below .ensures .1)) f)
+returns-3 c = (
+  search needs,
+  λ f S w.
+      let o = one (P0 (c .before .before .before .before .before .before)) S (c .before .before .before .before .before .before .args .s) f (c .before .before .before .before .if1 .left) w in
+      leaves (P0 (c .before .before .before .before .before .before)) (record { fault = 0; shape = c .below .result; made = c .before .before .before .before .before .before .args .made }) (o .rest) (testEffect S)
+      (test-right (o .top) S (o .rest) (o .is) (λ z. c .before .if2 .left (c .before .before .kind-of .ensures (o .top) (o .byte) ∙ z))) refl refl (o .below _ (c .below .ensures .1)) f,
+)
 
 pub test-spec : {M : Type 1} → statement M
 test-spec =

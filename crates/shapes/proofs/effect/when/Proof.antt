@@ -16,6 +16,7 @@ use Rattle.shapes.proofs.shape.fault.Reads as fault-reads
 -- begin
 abbrev P0 : tie.Start → Pool
 P0 c = pool (c .args .tops .now) (c .args .belows .now) (c .args .heights .now) (c .args .made)
+
 -- end
 
 element-copy-out-if1 : tie.Need-element-copy-out-if1
@@ -44,23 +45,27 @@ below-requires-2 : tie.Need-below-requires-2
 below-requires-2 c κs = search needs
 
 returns-2 : tie.Need-returns-2
-returns-2 c =
-    (search needs, λ f S w.
-        let o = two (P0 (c .before .before .before .before .before .before .before .before)) S (c .before .before .before .before .before .before .before .before .args .s) f (c .before .before .before .before .before .before .if1 .left) w in
-        leaves (P0 (c .before .before .before .before .before .before .before .before)) (record { fault = 0; shape = c .below2 .result; made = c .before .before .before .before .before .before .before .before .args .made }) (o .rest) (whenEffect (c .before .before .before .before .before .before .before .before .args .which) S)
-        (when-right _ (o .top) (o .next) S (o .rest) (o .is) (sym (c .before .if2 .taken) ∙ c .before .before .takes .ensures (o .next) (o .top) (o .next-byte _ (c .before .before .before .before .before .below .ensures .1)) (o .byte)))
-        refl refl (o .deep _ _ (c .before .before .before .before .before .below .ensures .1) (c .below2 .ensures .1)) f)
+returns-2 c = (
+  search needs,
+  λ f S w.
+      let o = two (P0 (c .before .before .before .before .before .before .before .before)) S (c .before .before .before .before .before .before .before .before .args .s) f (c .before .before .before .before .before .before .if1 .left) w in
+      leaves (P0 (c .before .before .before .before .before .before .before .before)) (record { fault = 0; shape = c .below2 .result; made = c .before .before .before .before .before .before .before .before .args .made }) (o .rest) (whenEffect (c .before .before .before .before .before .before .before .before .args .which) S)
+      (when-right _ (o .top) (o .next) S (o .rest) (o .is) (sym (c .before .if2 .taken) ∙ c .before .before .takes .ensures (o .next) (o .top) (o .next-byte _ (c .before .before .before .before .before .below .ensures .1)) (o .byte)))
+      refl refl (o .deep _ _ (c .before .before .before .before .before .below .ensures .1) (c .below2 .ensures .1)) f,
+)
 
 fault-requires-2 : tie.Need-fault-requires-2
 fault-requires-2 c κs = search needs
 
 returns-3 : tie.Need-returns-3
-returns-3 c =
-    (search needs, λ f S w.
-        let o = two (P0 (c .before .before .before .before .before .before .before .before)) S (c .before .before .before .before .before .before .before .before .args .s) f (c .before .before .before .before .before .before .if1 .left) w in
-        settled (P0 (c .before .before .before .before .before .before .before .before)) (c .fault2 .result) _ (c .fault2 .ensures .2) (refuses (P0 (c .before .before .before .before .before .before .before .before)) (c .fault2 .result) 15 (whenEffect (c .before .before .before .before .before .before .before .before .args .which) S)
-        (when-wrong _ (o .top) (o .next) S (o .rest) (o .is) (sym (c .before .if2 .left) ∙ c .before .before .takes .ensures (o .next) (o .top) (o .next-byte _ (c .before .before .before .before .before .below .ensures .1)) (o .byte)))
-        (omega arith) (c .fault2 .ensures) f))
+returns-3 c = (
+  search needs,
+  λ f S w.
+      let o = two (P0 (c .before .before .before .before .before .before .before .before)) S (c .before .before .before .before .before .before .before .before .args .s) f (c .before .before .before .before .before .before .if1 .left) w in
+      settled (P0 (c .before .before .before .before .before .before .before .before)) (c .fault2 .result) _ (c .fault2 .ensures .2) (refuses (P0 (c .before .before .before .before .before .before .before .before)) (c .fault2 .result) 15 (whenEffect (c .before .before .before .before .before .before .before .before .args .which) S)
+      (when-wrong _ (o .top) (o .next) S (o .rest) (o .is) (sym (c .before .if2 .left) ∙ c .before .before .takes .ensures (o .next) (o .top) (o .next-byte _ (c .before .before .before .before .before .below .ensures .1)) (o .byte)))
+      (omega arith) (c .fault2 .ensures) f),
+)
 
 pub when-spec : {M : Type 1} → statement M
 when-spec =

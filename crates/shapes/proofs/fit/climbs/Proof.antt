@@ -67,7 +67,7 @@ loop-less c =
 loop-again : tie.Need-loop-again Inv-loop μ-loop
 loop-again c =
     λ ps h.
-        rw (c .wide .ensures .0, h .rows (c .before .before .before .before .before .before .loop .x)) (sym (climb-up ps _ _ _ (c .before .before .before .before .before .loop-test .taken) (pos-of-ne-zero (c .before .before .before .before .if1 .left)) (c .before .before .before .if2 .left)) ∙ c .before .before .before .before .before .before .loop .inv ps h)
+    rw (c .wide .ensures .0, h .rows (c .before .before .before .before .before .before .loop .x)) (sym (climb-up ps _ _ _ (c .before .before .before .before .before .loop-test .taken) (pos-of-ne-zero (c .before .before .before .before .if1 .left)) (c .before .before .before .if2 .left)) ∙ c .before .before .before .before .before .before .loop .inv ps h)
 
 -- src/fit.rt:38:1
 returns-4 : tie.Need-returns-4 Inv-loop μ-loop

@@ -69,9 +69,10 @@ loop-less c =
 
 loop-again : tie.Need-loop-again Inv-loop μ-loop
 loop-again c =
-    λ M m all l H e st f q.
-        (c .before .refused .ensures M m all H (ap length e) st (c .before .before .before .before .before .before .before .before .before .before .before .loop .inv M m all l H e st f q .0) .1,
-         searching-next M m all l (c .before .before .before .before .before .before .before .before .before .before .before .before .before .args .code .now) (c .before .before .before .before .before .before .before .before .before .before .before .loop .n) (c .before .before .before .before .before .before .before .before .before .before .before .loop .at) (c .before .before .before .before .before .before .before .before .before .before .before .loop .inv M m all l H e st f q .1) (c .before .before .before .before .before .before .before .before .before .before .loop-test .taken) (c .before .before .before .before .before .before .before .before .before .if1 .left) _ (read-found _ _ _ (c .before .before .before .before .before .before .before .before .read .ensures) (c .before .before .before .before .before .before .i .given .1)) (sym (c .if2 .left) ∙ c .before .refused .ensures M m all H (ap length e) st (c .before .before .before .before .before .before .before .before .before .before .before .loop .inv M m all l H e st f q .0) .0))
+    λ M m all l H e st f q. (
+      c .before .refused .ensures M m all H (ap length e) st (c .before .before .before .before .before .before .before .before .before .before .before .loop .inv M m all l H e st f q .0) .1,
+      searching-next M m all l (c .before .before .before .before .before .before .before .before .before .before .before .before .before .args .code .now) (c .before .before .before .before .before .before .before .before .before .before .before .loop .n) (c .before .before .before .before .before .before .before .before .before .before .before .loop .at) (c .before .before .before .before .before .before .before .before .before .before .before .loop .inv M m all l H e st f q .1) (c .before .before .before .before .before .before .before .before .before .before .loop-test .taken) (c .before .before .before .before .before .before .before .before .before .if1 .left) _ (read-found _ _ _ (c .before .before .before .before .before .before .before .before .read .ensures) (c .before .before .before .before .before .before .i .given .1)) (sym (c .if2 .left) ∙ c .before .refused .ensures M m all H (ap length e) st (c .before .before .before .before .before .before .before .before .before .before .before .loop .inv M m all l H e st f q .0) .0),
+    )
 
 returns-4 : tie.Need-returns-4 Inv-loop μ-loop
 returns-4 c =

@@ -24,8 +24,8 @@ scan-requires c κs = search needs
 returns-2 : tie.Need-returns-2
 returns-2 c =
     λ M m H e l R.
-        let cs = c .before .before .before .clear .ensures .0 in
-        (method-undecoded M m _ _ _ e (c .before .scan .ensures .1 (cs .size ∙ R .starts-size) (cs .zeros)) (c .if2 .taken), λ z. absurd (omega arith))
+    let cs = c .before .before .before .clear .ensures .0 in
+    (method-undecoded M m _ _ _ e (c .before .scan .ensures .1 (cs .size ∙ R .starts-size) (cs .zeros)) (c .if2 .taken), λ z. absurd (omega arith))
 
 pass-requires : tie.Need-pass-requires
 pass-requires c κs = search needs
@@ -33,11 +33,11 @@ pass-requires c κs = search needs
 returns-3 : tie.Need-returns-3
 returns-3 c =
     λ M m H e l R.
-        let cs = c .before .before .before .before .before .before .before .before .before .clear .ensures .0 in
-        let cf = c .before .before .before .before .before .before .before .before .before .clear .ensures .1 in
-        let d = method-decoded (c .before .before .before .before .before .before .before .before .before .before .before .before .before .before .args .code .now) (c .before .before .before .before .before .before .before .scan .last .1 .0) (c .before .before .before .before .before .before .before .scan .result) (c .before .before .before .before .before .before .before .scan .ensures .1 (cs .size ∙ R .starts-size) (cs .zeros)) (c .before .before .before .before .before .before .if2 .left) in
-        let p = c .pass .ensures M m (d .sites) H e (d .marks) (d .is) (R .fine) (nothing-kept _ _ _ (cf .size ∙ R .found-size) (cf .zeros)) in
-        (method-told M m _ _ _ (d .sites) e (d .is) (p .0), λ z. record { starts-size = c .before .before .before .before .before .before .before .scan .ensures .0 ∙ (cs .size ∙ R .starts-size); found-size = p .1 z .size; fine = p .1 z .fine })
+    let cs = c .before .before .before .before .before .before .before .before .before .clear .ensures .0 in
+    let cf = c .before .before .before .before .before .before .before .before .before .clear .ensures .1 in
+    let d = method-decoded (c .before .before .before .before .before .before .before .before .before .before .before .before .before .before .args .code .now) (c .before .before .before .before .before .before .before .scan .last .1 .0) (c .before .before .before .before .before .before .before .scan .result) (c .before .before .before .before .before .before .before .scan .ensures .1 (cs .size ∙ R .starts-size) (cs .zeros)) (c .before .before .before .before .before .before .if2 .left) in
+    let p = c .pass .ensures M m (d .sites) H e (d .marks) (d .is) (R .fine) (nothing-kept _ _ _ (cf .size ∙ R .found-size) (cf .zeros)) in
+    (method-told M m _ _ _ (d .sites) e (d .is) (p .0), λ z. record { starts-size = c .before .before .before .before .before .before .before .scan .ensures .0 ∙ (cs .size ∙ R .starts-size); found-size = p .1 z .size; fine = p .1 z .fine })
 
 pub method-spec : {M : Type 1} → statement M
 method-spec =

@@ -17,6 +17,7 @@ use Rattle.shapes.proofs.visit.lands.Reads as lands-reads
 -- begin
 abbrev P0 : tie.Start → Pool
 P0 c = pool (c .args .tops .now) (c .args .belows .now) (c .args .heights .now) 2
+
 -- end
 
 group-requires : tie.Need-group-requires
@@ -38,8 +39,8 @@ step-requires c κs = search needs
 returns-2 : tie.Need-returns-2
 returns-2 c =
     λ M m all H z st f.
-        let t = c .before .step .ensures .1 M m (H .by-class) (H .by-field) (H .by-method) (H .own) (c .before .before .before .before .before .if1 .left) f [] (empty-shows (P0 (c .before .before .before .before .before .before .before .before)) f) in
-        (step-refused M m all (c .before .before .before .before .before .before .before .before .args .i) _ _ (c .before .step .result) (c .before .before .before .before .before .before .before .group .ensures) (c .before .before .before .before .before .if1 .left) (t .0), fine-two _ (t .1 .fine))
+    let t = c .before .step .ensures .1 M m (H .by-class) (H .by-field) (H .by-method) (H .own) (c .before .before .before .before .before .if1 .left) f [] (empty-shows (P0 (c .before .before .before .before .before .before .before .before)) f) in
+    (step-refused M m all (c .before .before .before .before .before .before .before .before .args .i) _ _ (c .before .step .result) (c .before .before .before .before .before .before .before .group .ensures) (c .before .before .before .before .before .if1 .left) (t .0), fine-two _ (t .1 .fine))
 
 pub refused-spec : {M : Type 1} → statement M
 refused-spec =

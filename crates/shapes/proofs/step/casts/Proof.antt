@@ -18,6 +18,7 @@ use Rattle.shapes.proofs.shape.fault.Reads as fault-reads
 -- begin
 abbrev P0 : tie.Start → Pool
 P0 c = pool (c .args .tops .now) (c .args .belows .now) (c .args .heights .now) (c .args .made)
+
 -- end
 
 class-row-requires : tie.Need-class-row-requires
@@ -41,10 +42,12 @@ cast-requires c κs = search needs
 
 returns-2 : tie.Need-returns-2
 unfolding effect
-returns-2 c =
-    (c .cast .ensures .0, λ M m e l f S w.
-        has (P0 (c .before .before .before .before .before .before)) _ _ (λ a. effect M m a S) (operands M m (castclass (c .before .before .before .before .before .before .args .token))) (Act.castclass (c .before .before .before .before .before .class-row .result)) (castEffect (c .before .before .before .before .before .class-row .result) S)
-        (class-has M m _ _ _ e (c .before .before .before .before .before .class-row .ensures .1 l) (c .before .before .before .before .if1 .left)) refl (c .cast .ensures .1 (c .before .before .before .before .before .class-row .result) (class-byte-is _) f S w))
+returns-2 c = (
+  c .cast .ensures .0,
+  λ M m e l f S w.
+      has (P0 (c .before .before .before .before .before .before)) _ _ (λ a. effect M m a S) (operands M m (castclass (c .before .before .before .before .before .before .args .token))) (Act.castclass (c .before .before .before .before .before .class-row .result)) (castEffect (c .before .before .before .before .before .class-row .result) S)
+      (class-has M m _ _ _ e (c .before .before .before .before .before .class-row .ensures .1 l) (c .before .before .before .before .if1 .left)) refl (c .cast .ensures .1 (c .before .before .before .before .before .class-row .result) (class-byte-is _) f S w),
+)
 
 pub casts-spec : {M : Type 1} → statement M
 casts-spec =

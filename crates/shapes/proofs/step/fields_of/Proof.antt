@@ -24,6 +24,7 @@ use Rattle.shapes.proofs.shape.fault.Reads as fault-reads
 -- begin
 abbrev P0 : tie.Start → Pool
 P0 c = pool (c .args .tops .now) (c .args .belows .now) (c .args .heights .now) (c .args .made)
+
 -- end
 
 field-row-requires : tie.Need-field-row-requires
@@ -51,22 +52,26 @@ ldfld-requires c κs = search needs
 
 returns-2 : tie.Need-returns-2
 unfolding flag effect
-returns-2 c =
-    (c .ldfld .ensures .0, λ M m e p H l f S w. 
-        let k = field-has M _ (c .before .before .before .before .before .before .before .before .before .before .before .args .field-owners .now) (c .before .before .before .before .before .before .before .before .before .before .before .args .flags .now) (c .before .before .before .before .before .before .before .before .before .before .before .args .field-types .now) H false Act.ldfld (c .before .before .before .before .before .before .before .before .before .before .before .args .token) (c .before .before .before .before .before .before .before .before .before .field-row .result) _ refl (c .before .before .before .before .before .before .before .before .before .field-row .ensures .1 (H .few)) (c .before .before .before .before .before .before .before .before .if2 .left) in
-        has (P0 (c .before .before .before .before .before .before .before .before .before .before .before)) _ _ (λ a. effect M m a S) (operands M m (fieldBy (c .before .before .before .before .before .before .before .before .before .before .before .args .g) (c .before .before .before .before .before .before .before .before .before .before .before .args .token))) (Act.ldfld (c .before .before .before .before .before .before .before .before .before .field-row .result) (k .field)) (effect M m (Act.ldfld 0 (k .field)) S) (field-29 M m _ _ (c .before .before .before .before .if3 .taken) ∙ k .found) refl
-        (c .ldfld .ensures .1 M m (k .field) p (owner-byte _ _ _ (H .owner (c .before .before .before .before .before .before .before .before .before .field-row .result) (k .field) (k .is)) (H .low (c .before .before .before .before .before .before .before .before .before .field-row .result) (k .field) (k .is)) (c .before .before .before .before .before .before .class-byte .ensures)) (sym (H .type (c .before .before .before .before .before .before .before .before .before .field-row .result) (k .field) (k .is))) f S w))
+returns-2 c = (
+  c .ldfld .ensures .0,
+  λ M m e p H l f S w.
+      let k = field-has M _ (c .before .before .before .before .before .before .before .before .before .before .before .args .field-owners .now) (c .before .before .before .before .before .before .before .before .before .before .before .args .flags .now) (c .before .before .before .before .before .before .before .before .before .before .before .args .field-types .now) H false Act.ldfld (c .before .before .before .before .before .before .before .before .before .before .before .args .token) (c .before .before .before .before .before .before .before .before .before .field-row .result) _ refl (c .before .before .before .before .before .before .before .before .before .field-row .ensures .1 (H .few)) (c .before .before .before .before .before .before .before .before .if2 .left) in
+      has (P0 (c .before .before .before .before .before .before .before .before .before .before .before)) _ _ (λ a. effect M m a S) (operands M m (fieldBy (c .before .before .before .before .before .before .before .before .before .before .before .args .g) (c .before .before .before .before .before .before .before .before .before .before .before .args .token))) (Act.ldfld (c .before .before .before .before .before .before .before .before .before .field-row .result) (k .field)) (effect M m (Act.ldfld 0 (k .field)) S) (field-29 M m _ _ (c .before .before .before .before .if3 .taken) ∙ k .found) refl
+      (c .ldfld .ensures .1 M m (k .field) p (owner-byte _ _ _ (H .owner (c .before .before .before .before .before .before .before .before .before .field-row .result) (k .field) (k .is)) (H .low (c .before .before .before .before .before .before .before .before .before .field-row .result) (k .field) (k .is)) (c .before .before .before .before .before .before .class-byte .ensures)) (sym (H .type (c .before .before .before .before .before .before .before .before .before .field-row .result) (k .field) (k .is))) f S w),
+)
 
 stfld-requires : tie.Need-stfld-requires
 stfld-requires c κs = search needs
 
 returns-3 : tie.Need-returns-3
 unfolding flag effect
-returns-3 c =
-    (c .stfld .ensures .0, λ M m e p H l f S w. 
-        let k = field-has M _ (c .before .before .before .before .before .before .before .before .before .before .before .args .field-owners .now) (c .before .before .before .before .before .before .before .before .before .before .before .args .flags .now) (c .before .before .before .before .before .before .before .before .before .before .before .args .field-types .now) H false Act.stfld (c .before .before .before .before .before .before .before .before .before .before .before .args .token) (c .before .before .before .before .before .before .before .before .before .field-row .result) _ refl (c .before .before .before .before .before .before .before .before .before .field-row .ensures .1 (H .few)) (c .before .before .before .before .before .before .before .before .if2 .left) in
-        has (P0 (c .before .before .before .before .before .before .before .before .before .before .before)) _ _ (λ a. effect M m a S) (operands M m (fieldBy (c .before .before .before .before .before .before .before .before .before .before .before .args .g) (c .before .before .before .before .before .before .before .before .before .before .before .args .token))) (Act.stfld (c .before .before .before .before .before .before .before .before .before .field-row .result) (k .field)) (effect M m (Act.stfld 0 (k .field)) S) (field-30 M m _ _ (c .before .before .before .before .if3 .left) l (c .before .before .before .before .before .before .before .before .before .before .if1 .taken) ∙ k .found) refl
-        (c .stfld .ensures .1 M m (k .field) p (owner-byte _ _ _ (H .owner (c .before .before .before .before .before .before .before .before .before .field-row .result) (k .field) (k .is)) (H .low (c .before .before .before .before .before .before .before .before .before .field-row .result) (k .field) (k .is)) (c .before .before .before .before .before .before .class-byte .ensures)) (sym (H .type (c .before .before .before .before .before .before .before .before .before .field-row .result) (k .field) (k .is))) f S w))
+returns-3 c = (
+  c .stfld .ensures .0,
+  λ M m e p H l f S w.
+      let k = field-has M _ (c .before .before .before .before .before .before .before .before .before .before .before .args .field-owners .now) (c .before .before .before .before .before .before .before .before .before .before .before .args .flags .now) (c .before .before .before .before .before .before .before .before .before .before .before .args .field-types .now) H false Act.stfld (c .before .before .before .before .before .before .before .before .before .before .before .args .token) (c .before .before .before .before .before .before .before .before .before .field-row .result) _ refl (c .before .before .before .before .before .before .before .before .before .field-row .ensures .1 (H .few)) (c .before .before .before .before .before .before .before .before .if2 .left) in
+      has (P0 (c .before .before .before .before .before .before .before .before .before .before .before)) _ _ (λ a. effect M m a S) (operands M m (fieldBy (c .before .before .before .before .before .before .before .before .before .before .before .args .g) (c .before .before .before .before .before .before .before .before .before .before .before .args .token))) (Act.stfld (c .before .before .before .before .before .before .before .before .before .field-row .result) (k .field)) (effect M m (Act.stfld 0 (k .field)) S) (field-30 M m _ _ (c .before .before .before .before .if3 .left) l (c .before .before .before .before .before .before .before .before .before .before .if1 .taken) ∙ k .found) refl
+      (c .stfld .ensures .1 M m (k .field) p (owner-byte _ _ _ (H .owner (c .before .before .before .before .before .before .before .before .before .field-row .result) (k .field) (k .is)) (H .low (c .before .before .before .before .before .before .before .before .before .field-row .result) (k .field) (k .is)) (c .before .before .before .before .before .before .class-byte .ensures)) (sym (H .type (c .before .before .before .before .before .before .before .before .before .field-row .result) (k .field) (k .is))) f S w),
+)
 
 field-row-requires-2 : tie.Need-field-row-requires-2
 field-row-requires-2 c κs = search needs
@@ -87,22 +92,26 @@ push-requires c κs = search needs
 
 returns-5 : tie.Need-returns-5
 unfolding flag effect
-returns-5 c =
-    (c .push .ensures .0, λ M m e p H l f S w. 
-        let k = field-has M _ (c .before .before .before .before .before .before .before .before .before .args .field-owners .now) (c .before .before .before .before .before .before .before .before .before .args .flags .now) (c .before .before .before .before .before .before .before .before .before .args .field-types .now) H true Act.ldsfld (c .before .before .before .before .before .before .before .before .before .args .token) (c .before .before .before .before .before .before .before .field-row2 .result) _ refl (c .before .before .before .before .before .before .before .field-row2 .ensures .1 (H .few)) (c .before .before .before .before .before .before .if4 .left) in
-        has (P0 (c .before .before .before .before .before .before .before .before .before)) _ _ (λ a. effect M m a S) (operands M m (fieldBy (c .before .before .before .before .before .before .before .before .before .args .g) (c .before .before .before .before .before .before .before .before .before .args .token))) (Act.ldsfld (c .before .before .before .before .before .before .before .field-row2 .result) (k .field)) (pushes m (k .field .type) S) (field-31 M m _ _ (c .before .before .before .before .if5 .taken) ∙ k .found) refl
-        (c .push .ensures .1 m (k .field .type) e (sym (H .type (c .before .before .before .before .before .before .before .field-row2 .result) (k .field) (k .is))) f S w))
+returns-5 c = (
+  c .push .ensures .0,
+  λ M m e p H l f S w.
+      let k = field-has M _ (c .before .before .before .before .before .before .before .before .before .args .field-owners .now) (c .before .before .before .before .before .before .before .before .before .args .flags .now) (c .before .before .before .before .before .before .before .before .before .args .field-types .now) H true Act.ldsfld (c .before .before .before .before .before .before .before .before .before .args .token) (c .before .before .before .before .before .before .before .field-row2 .result) _ refl (c .before .before .before .before .before .before .before .field-row2 .ensures .1 (H .few)) (c .before .before .before .before .before .before .if4 .left) in
+      has (P0 (c .before .before .before .before .before .before .before .before .before)) _ _ (λ a. effect M m a S) (operands M m (fieldBy (c .before .before .before .before .before .before .before .before .before .args .g) (c .before .before .before .before .before .before .before .before .before .args .token))) (Act.ldsfld (c .before .before .before .before .before .before .before .field-row2 .result) (k .field)) (pushes m (k .field .type) S) (field-31 M m _ _ (c .before .before .before .before .if5 .taken) ∙ k .found) refl
+      (c .push .ensures .1 m (k .field .type) e (sym (H .type (c .before .before .before .before .before .before .before .field-row2 .result) (k .field) (k .is))) f S w),
+)
 
 store-requires : tie.Need-store-requires
 store-requires c κs = search needs
 
 returns-6 : tie.Need-returns-6
 unfolding flag effect
-returns-6 c =
-    (c .store .ensures .0, λ M m e p H l f S w. 
-        let k = field-has M _ (c .before .before .before .before .before .before .before .before .before .args .field-owners .now) (c .before .before .before .before .before .before .before .before .before .args .flags .now) (c .before .before .before .before .before .before .before .before .before .args .field-types .now) H true Act.stsfld (c .before .before .before .before .before .before .before .before .before .args .token) (c .before .before .before .before .before .before .before .field-row2 .result) _ refl (c .before .before .before .before .before .before .before .field-row2 .ensures .1 (H .few)) (c .before .before .before .before .before .before .if4 .left) in
-        has (P0 (c .before .before .before .before .before .before .before .before .before)) _ _ (λ a. effect M m a S) (operands M m (fieldBy (c .before .before .before .before .before .before .before .before .before .args .g) (c .before .before .before .before .before .before .before .before .before .args .token))) (Act.stsfld (c .before .before .before .before .before .before .before .field-row2 .result) (k .field)) (popsOne M (k .field .type) S) (field-32 M m _ _ (c .before .before .before .before .before .before .before .before .if1 .left) (c .before .before .before .before .if5 .left) ∙ k .found) refl
-        (c .store .ensures .1 M (k .field .type) p (sym (H .type (c .before .before .before .before .before .before .before .field-row2 .result) (k .field) (k .is))) f S w))
+returns-6 c = (
+  c .store .ensures .0,
+  λ M m e p H l f S w.
+      let k = field-has M _ (c .before .before .before .before .before .before .before .before .before .args .field-owners .now) (c .before .before .before .before .before .before .before .before .before .args .flags .now) (c .before .before .before .before .before .before .before .before .before .args .field-types .now) H true Act.stsfld (c .before .before .before .before .before .before .before .before .before .args .token) (c .before .before .before .before .before .before .before .field-row2 .result) _ refl (c .before .before .before .before .before .before .before .field-row2 .ensures .1 (H .few)) (c .before .before .before .before .before .before .if4 .left) in
+      has (P0 (c .before .before .before .before .before .before .before .before .before)) _ _ (λ a. effect M m a S) (operands M m (fieldBy (c .before .before .before .before .before .before .before .before .before .args .g) (c .before .before .before .before .before .before .before .before .before .args .token))) (Act.stsfld (c .before .before .before .before .before .before .before .field-row2 .result) (k .field)) (popsOne M (k .field .type) S) (field-32 M m _ _ (c .before .before .before .before .before .before .before .before .if1 .left) (c .before .before .before .before .if5 .left) ∙ k .found) refl
+      (c .store .ensures .1 M (k .field .type) p (sym (H .type (c .before .before .before .before .before .before .before .field-row2 .result) (k .field) (k .is))) f S w),
+)
 
 pub fields-of-spec : {M : Type 1} → statement M
 fields-of-spec =

@@ -13,6 +13,7 @@ use Rattle.shapes.proofs.shape.fault.Reads as fault-reads
 -- begin
 abbrev P0 : tie.Start → Pool
 P0 c = pool (c .args .tops .now) (c .args .belows .now) (c .args .heights .now) (c .args .made)
+
 -- end
 
 fault-requires : tie.Need-fault-requires
@@ -29,10 +30,12 @@ push-requires : tie.Need-push-requires
 push-requires c κs = search needs
 
 returns-2 : tie.Need-returns-2
-returns-2 c =
-    (c .push .ensures .0, λ m o e t f S w.
-        let d = a-type o _ t (c .before .before .before .before .if1 .left) in
-        has (P0 (c .before .before .before .before .before)) _ _ (λ u. pushes m u S) o (d .type) (pushes m (d .type) S) (d .is) refl (c .push .ensures .1 m (d .type) e (d .byte) f S w))
+returns-2 c = (
+  c .push .ensures .0,
+  λ m o e t f S w.
+      let d = a-type o _ t (c .before .before .before .before .if1 .left) in
+      has (P0 (c .before .before .before .before .before)) _ _ (λ u. pushes m u S) o (d .type) (pushes m (d .type) S) (d .is) refl (c .push .ensures .1 m (d .type) e (d .byte) f S w),
+)
 
 pub load-spec : {M : Type 1} → statement M
 load-spec = tie.close (tie.spec fault-requires returns cast-push push-requires returns-2)

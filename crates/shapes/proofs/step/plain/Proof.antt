@@ -29,6 +29,7 @@ use Rattle.shapes.proofs.step.load.Reads as load-reads
 -- begin
 abbrev P0 : tie.Start → Pool
 P0 c = pool (c .args .tops .now) (c .args .belows .now) (c .args .heights .now) (c .args .made)
+
 -- end
 
 pop-requires : tie.Need-pop-requires

@@ -13,6 +13,7 @@ use Rattle.shapes.proofs.effect.when.Reads as when-reads
 -- begin
 abbrev P0 : tie.Start → Pool
 P0 c = pool (c .args .tops .now) (c .args .belows .now) (c .args .heights .now) (c .args .made)
+
 -- end
 
 returns : tie.Need-returns

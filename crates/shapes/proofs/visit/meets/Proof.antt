@@ -36,9 +36,9 @@ same-requires c κs = search needs
 returns-2 : tie.Need-returns-2
 returns-2 c =
     λ k n F S f q h b w.
-        let s = stood (pool (c .before .before .before .args .tops .now) (c .before .before .before .args .belows .now) (c .before .before .before .args .heights .now) k) n F (c .before .before .before .args .found .now) (c .before .before .before .args .o) f q h b (c .before .if1 .left) in
-        later-arrival (pool (c .before .before .before .args .tops .now) (c .before .before .before .args .belows .now) (c .before .before .before .args .heights .now) k) n F (c .before .before .before .args .found .now) (c .before .before .before .args .o) f q h b S _ (c .before .if1 .left)
-        (c .same .ensures k S (s .shape) f w (s .shows))
+    let s = stood (pool (c .before .before .before .args .tops .now) (c .before .before .before .args .belows .now) (c .before .before .before .args .heights .now) k) n F (c .before .before .before .args .found .now) (c .before .before .before .args .o) f q h b (c .before .if1 .left) in
+    later-arrival (pool (c .before .before .before .args .tops .now) (c .before .before .before .args .belows .now) (c .before .before .before .args .heights .now) k) n F (c .before .before .before .args .found .now) (c .before .before .before .args .o) f q h b S _ (c .before .if1 .left)
+    (c .same .ensures k S (s .shape) f w (s .shows))
 
 pub meets-spec : {M : Type 1} → statement M
 meets-spec =
