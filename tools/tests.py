@@ -1,11 +1,12 @@
 #!/usr/bin/env python3
-"""tests.py [--turn PROGRAM]: tests of asm, dis and explain, and of the lines that examples/EXPECTED promises.
+"""tests.py [--turn PROGRAM]: tests of asm, dis, explain and shapes, and of the lines that examples/EXPECTED promises.
 
 The promised lines are compared with the second implementation where it is there, and with PROGRAM, a `turn` that reads standard input,
 where one is named.
 """
 
 import argparse
+import itertools
 import pathlib
 import random
 import subprocess
@@ -21,6 +22,7 @@ from housetext.instructions import BY_MNEMONIC
 from housetext.meanings import MEANINGS
 from housetext.names import Names, read_names, write_names
 from housetext.records import split_input
+from housetext.shaping import shape_lines
 from housetext.words import TextErrors
 
 TOOLS = pathlib.Path(__file__).resolve().parent
@@ -29,6 +31,7 @@ EXAMPLES = sorted((MAIN / "examples").glob("*.turn"))
 VECTORS = sorted((MAIN / "vectors").glob("*.bin"))
 SECOND = MAIN / "second"
 SEED = 20220
+SHAPED = 300  # modules of the vectors whose shapes are asked for
 
 
 class Tally:
@@ -392,6 +395,23 @@ def test_explain(tally):
     tally.holds("no method 9" in explained("loop.turn", "31 9 1 5 -")[-1], "a method that isn't there")
 
 
+def test_shapes(tally):
+    """Depth and types before each instruction, in an example and, without a failure, in the modules of the vectors."""
+    if not SECOND.is_dir():
+        return
+    said = run_tool("shapes", MAIN / "examples/keva-too-many.turn", "4").stdout.decode().splitlines()
+    tally.holds(said[0] == "Method 4: Bot.turn." and said[1].split() == ["0", "0", "ldc.i4.7"], "the first instruction has an empty stack")
+    tally.holds("    43   3  bgt.s ask                       int32, int32, int32" in said, "depth and types before an instruction")
+    tally.holds("     6   1  ldc.i4.7                        Place" in said, "a class by its name")
+    tally.holds(said[-1] == "Number 15 at offset 47. Wanted: exactly one value, that fits int32.", "the fault where the shapes end")
+    tally.holds(run_tool("shapes", MAIN / "examples/bad-override.turn").returncode == 1, "a module that isn't loaded has no shapes")
+    tally.holds(run_tool("shapes", MAIN / "examples/loop.turn", "9").stdout == b"This module has no method 9.\n", "a method that isn't there")
+    for data in itertools.islice(vector_modules(), SHAPED):
+        lines = shape_lines(Source(data)) or []
+        first = [after.split() for line, after in zip(lines, lines[1:]) if line.startswith("Method") and after.startswith(" ")]
+        tally.holds(all(words[:2] == ["0", "0"] for words in first), "every method begins with an empty stack")
+
+
 def explained(name, line):
     """The explanation of a line for an example, without the names of its text."""
     data = assemble((MAIN / "examples" / name).read_text(encoding="utf-8"))
@@ -404,7 +424,7 @@ def main():
     options = parser.parse_args()
     tally = Tally()
     for test in (test_lengths, test_opcodes, test_paper_input, test_examples, test_garbage, test_damaged, test_vectors, test_errors,
-                 test_raw_forms, test_names, test_programs, test_explain):
+                 test_raw_forms, test_names, test_programs, test_explain, test_shapes):
         test(tally)
     test_expected(tally, options.turn)
     if not SECOND.is_dir():

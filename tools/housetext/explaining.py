@@ -2,9 +2,11 @@
 
 import re
 
+from .assemble import assemble
 from .disassemble import CodeLines, Text, Variables
+from .files import fail_on_bad_text, read_file, read_text_file
 from .meanings import CHECK, LOADING, MEANINGS, RUN
-from .names import Names
+from .names import Names, read_names
 from .records import LOCAL, METHOD, PARAMETER, TYPES, split_input
 from .second_opinion import second_opinion
 from .words import BITS, write_real
@@ -23,6 +25,21 @@ class Source:
         self.text = Text(self.tables, self.code, self.names, False)
         self.naming = self.text.naming
         self.methods = [record for record in self.text.records if record.kind == METHOD]
+
+
+def read_source(name, names_file):
+    """The module of a file, with its names; a text, whose name ends in .turn, brings its own."""
+    if name.endswith(".turn"):
+        with fail_on_bad_text(name):
+            assembled = assemble(read_text_file(name))
+        return Source(assembled.data, assembled.names, assembled.record_lines, assembled.code_lines)
+    with fail_on_bad_text(name):
+        data = read_file(name)
+    names = None
+    if names_file:
+        with fail_on_bad_text(names_file):
+            names = read_names(read_text_file(names_file))
+    return Source(data, names)
 
 
 def read_answer(line):
@@ -124,4 +141,9 @@ def stack_lines(source, number, method, offset):
     if opinion is None:
         return ["What stood on the stack is told where the second implementation is there."]
     lines = opinion.check_lines(number, method, offset) if number in CHECK else opinion.run_lines(number, method, offset)
-    return [re.sub(r"\bclass (\d+)", lambda found: source.naming.class_word(int(found[1])), line) for line in lines]
+    return [with_class_names(source, line) for line in lines]
+
+
+def with_class_names(source, line):
+    """A line of the second implementation, which knows classes by row."""
+    return re.sub(r"\bclass (\d+)", lambda found: source.naming.class_word(int(found[1])), line)

@@ -26,6 +26,9 @@ class SecondOpinion:
         self.module = loader.load(tables, code).module
         self.explanation = check.explain(self.module)
         self.run = lambda: step.run(self.module, [], BUDGET)
+        self.shapes = lambda row: check.shapes(self.module, row)
+        self.method_check = lambda row: check.MethodCheck(self.module, self.module.methods[row])
+        self.Fault = check.Fault
 
     def check_lines(self, number, method, offset):
         """What stood on the stack at a fault of the check and what was wanted there."""
@@ -34,6 +37,18 @@ class SecondOpinion:
             return [f"The line is not what the check says of this module: that is {said.number} {said.method} {said.offset}."]
         lines = [] if said.shape is None else [f"Found: {said.found}."]
         return lines + [f"Wanted: {said.wanted}."]
+
+    def found(self, row):
+        """The offset of each instruction of a method and the types before it from the bottom, as far as the check of that method comes."""
+        return [(instruction.offset, [self.type_name(type) for type in shape]) for instruction, shape in self.shapes(row)]
+
+    def fault_lines(self, row):
+        """The fault of a method, if it has one, and what was wanted there."""
+        try:
+            self.method_check(row).check()
+        except self.Fault as fault:
+            return [f"Number {fault.number} at offset {fault.offset}. Wanted: {fault.wanted}."]
+        return []
 
     def run_lines(self, number, method, offset):
         """What stood on the running frame's stack where a run ended; nothing where the run had arguments or another budget."""
