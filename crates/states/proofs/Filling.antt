@@ -15,12 +15,12 @@ pub record Filled (f : ℕ → ℕ) (n i : ℕ) (l : List ℕ) : Type 0 where
   pub long : length l ≡ n
   pub done : (j : ℕ) → j < i → getD l j 0 ≡ f j
 
-length-span : (f : ℕ → ℕ) (i n : ℕ) → length (span f i n) ≡ n
+pub length-span : (f : ℕ → ℕ) (i n : ℕ) → length (span f i n) ≡ n
 unfolding span
 length-span f i zero = refl
 length-span f i (suc n) = ap suc (length-span f (suc i) n)
 
-getD-span : (f : ℕ → ℕ) (i n j : ℕ) → j < n → getD (span f i n) j 0 ≡ f (i + j)
+pub getD-span : (f : ℕ → ℕ) (i n j : ℕ) → j < n → getD (span f i n) j 0 ≡ f (i + j)
 unfolding span
 getD-span f i zero j h = absurd (omega arith)
 getD-span f i (suc n) zero h = let e : i + 0 ≡ i = omega arith in rw e

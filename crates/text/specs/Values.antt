@@ -4,7 +4,7 @@ use mir.Syntax.{w32}
 use Rattle.model.specs.State as state
 use Rattle.bits.specs.Cells.{low}
 use Rattle.text.specs.declared.line.Value.{Value}
-use Rattle.text.specs.declared.line.Value.the-variants.{None, Int32, Int64, Real}
+use Rattle.text.specs.declared.line.Value.the-variants.{None, Int32, Int64, Real, Null, Object}
 
 -- of an int32 the low 32 bits count
 abbrev pub valueOf : Value → Option state.Value
@@ -12,3 +12,5 @@ valueOf None = none
 valueOf (Int32 n) = some (state.vint32 (low w32 n))
 valueOf (Int64 n) = some (state.vint64 n)
 valueOf (Real n) = some (state.vF n)
+valueOf Null = some state.vnull
+valueOf (Object n) = some (state.vobject n)

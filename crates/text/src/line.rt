@@ -11,15 +11,17 @@ use super::numbers::hex;
 use super::numbers::put;
 use super::numbers::signed;
 
-// What a run hands back, as bits. An entry returns no class.
+// What a run hands back, as bits; an object is its number.
 pub enum Value {
     None,
     Int32(u64),
     Int64(u64),
     Real(u64),
+    Null,
+    Object(u64),
 }
 
-// A value: decimal, F as 16 upper-case hex digits, `-` for none.
+// A value: decimal, F as 16 upper-case hex digits, `-` for none; no class is returned by an entry.
 pub fn value_text(out: &mut [u8], at: usize, value: Value) -> usize
     ensures { λ r. ⌜ Appended (now (out .entry)) at (textOf (valueOf value)) (now (out .exit)) r ⌝ }
 {
@@ -28,6 +30,8 @@ pub fn value_text(out: &mut [u8], at: usize, value: Value) -> usize
         Value::Int32(n) => signed(out, at, false, n),
         Value::Int64(n) => signed(out, at, true, n),
         Value::Real(n) => hex(out, at, 16, n),
+        Value::Null => put(out, at, b'-'),
+        Value::Object(_) => put(out, at, b'-'),
     }
 }
 

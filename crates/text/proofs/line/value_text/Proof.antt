@@ -37,6 +37,18 @@ enum-known-value-3 c = search needs
 hex-requires : tie.Need-hex-requires
 hex-requires c κs = search needs
 
+enum-told-2 : tie.Need-enum-told-2
+enum-told-2 c = search needs
+
+put-requires-2 : tie.Need-put-requires-2
+put-requires-2 c κs = search needs
+
+enum-told-3 : tie.Need-enum-told-3
+enum-told-3 c = search needs
+
+put-requires-3 : tie.Need-put-requires-3
+put-requires-3 c κs = search needs
+
 same-length : tie.Need-same-length
 same-length c = search needs
 
@@ -68,6 +80,20 @@ returns-4 : tie.Need-returns-4
 unfolding textOf
 returns-4 c = same (sym (ap (λ (v : Value). textOf (valueOf v)) (c .before .before .before .before .before .value3 .given .1))) (c .before .before .hex .ensures)
 
+same-length-5 : tie.Need-same-length-5
+same-length-5 c = search needs
+
+returns-5 : tie.Need-returns-5
+unfolding textOf dash
+returns-5 c = same (sym (ap (λ (v : Value). textOf (valueOf v)) (c .before .before .before .before .enum-told2 .given .1))) (c .before .before .put2 .ensures)
+
+same-length-6 : tie.Need-same-length-6
+same-length-6 c = search needs
+
+returns-6 : tie.Need-returns-6
+unfolding textOf dash
+returns-6 c = same (sym (ap (λ (v : Value). textOf (valueOf v)) (c .before .before .before .before .enum-told3 .given .1))) (c .before .before .put3 .ensures)
+
 pub value-text-spec : {M : Type 1} → statement M
 value-text-spec =
     tie.close
@@ -80,6 +106,10 @@ value-text-spec =
     signed-requires-2
     enum-known-value-3
     hex-requires
+    enum-told-2
+    put-requires-2
+    enum-told-3
+    put-requires-3
     same-length
     returns
     same-length-2
@@ -87,4 +117,8 @@ value-text-spec =
     same-length-3
     returns-3
     same-length-4
-    returns-4)
+    returns-4
+    same-length-5
+    returns-5
+    same-length-6
+    returns-6)

@@ -1,0 +1,5 @@
+pub mod Whole
+pub mod Opcodes
+pub mod Branching
+pub mod Numbering
+pub mod Variable

@@ -1,0 +1,57 @@
+use borrow.Author.Needs.{needs}
+use Rattle.model.specs.Code.{starg}
+use Rattle.cells.specs.Cells.{actC}
+use Rattle.plain.proofs.Answers.{instead}
+use Rattle.moves.proofs.Whole.{is-whole, is-cut}
+use Rattle.moves.proofs.Numbering.{one-more, numbered-cut, numbered-goes}
+use Rattle.moves.proofs.variables.store_argument.Statement.{statement}
+use Rattle.moves.proofs.variables.store_argument.Tie as tie
+use Rattle.moves.proofs.variables.store_argument.Reads as reads
+use Rattle.moves.proofs.variables.store_argument.Lts as lts
+use Rattle.moves.proofs.variables.index.Reads as index-reads
+use Rattle.moves.proofs.variables.width.Reads as width-reads
+use Rattle.opcodes.proofs.operands.whole.Reads as whole-reads
+use Rattle.plain.proofs.locals.starg.Reads as starg-reads
+use Rattle.plain.proofs.stack.ends.Reads as ends-reads
+
+width-requires : tie.Need-width-requires
+width-requires c κs = search needs
+
+whole-requires : tie.Need-whole-requires
+whole-requires c κs = search needs
+
+ends-requires : tie.Need-ends-requires
+ends-requires c κs = search needs
+
+returns : tie.Need-returns
+returns c =
+    rw (c .ends .ensures)
+    (search needs, λ L D s t a f h p n b. numbered-cut L D _ _ (c .before .before .before .before .before .pre .1 .0 .0) b starg n (c .before .before .before .width .ensures .0) (is-cut _ _ (c .before .before .whole .ensures) (c .before .if1 .taken)))
+
+index-requires : tie.Need-index-requires
+index-requires c κs =
+    (c .before .before .before .before .before .pre .1 .0, one-more (c .before .before .before .width .ensures .0) (is-whole _ _ (c .before .before .whole .ensures) (c .before .if1 .left)))
+
+add-starg : tie.Need-add-starg
+add-starg c = search needs
+
+starg-requires : tie.Need-starg-requires
+starg-requires c κs = search needs
+
+returns-2 : tie.Need-returns-2
+unfolding actC
+returns-2 c =
+    (c .starg .ensures .0, λ L D s t a f h p n b. instead (numbered-goes L D _ _ (c .before .before .before .before .before .before .before .before .pre .1 .0 .0) b starg n (c .before .before .before .before .before .before .width .ensures .0) (is-whole _ _ (c .before .before .before .before .before .whole .ensures) (c .before .before .before .before .if1 .left)) (c .before .before .index .ensures)) (c .starg .ensures .1 L s t a f h p))
+
+pub store-argument-spec : {M : Type 1} → statement M
+store-argument-spec =
+    tie.close
+    (tie.spec
+    width-requires
+    whole-requires
+    ends-requires
+    returns
+    index-requires
+    add-starg
+    starg-requires
+    returns-2)

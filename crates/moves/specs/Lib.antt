@@ -1,0 +1,2 @@
+-- What the contracts of arguments and locals speak of.
+pub mod Variables

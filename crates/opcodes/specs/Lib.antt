@@ -1,0 +1,2 @@
+-- What the contracts of a step by its opcode speak of.
+pub mod Tries

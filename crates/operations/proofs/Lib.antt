@@ -1,0 +1,6 @@
+pub mod Signed
+pub mod Cut
+pub mod Arms
+pub mod ByForm
+pub mod Pushes
+pub mod Operates

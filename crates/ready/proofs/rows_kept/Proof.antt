@@ -1,0 +1,48 @@
+use Prim.Native.Nat.{_-_, _≤_}
+use native.Mathlib.Omega.{arith}
+use borrow.Author.Needs.{needs}
+use Rattle.states.proofs.Filling.{Filled, filled-none, filled-more, filled-all}
+use Rattle.ready.specs.Settled.{keptRow}
+use Rattle.ready.proofs.rows_kept.Statement.{statement}
+use Rattle.ready.proofs.rows_kept.Tie as tie
+
+abbrev Inv-loop : tie.InvT-loop
+Inv-loop l n out₀ i₀ out i = (i ≤ 129) × Filled (keptRow l n) 129 i out
+
+abbrev μ-loop : tie.MeasureT-loop
+μ-loop l n out₀ i₀ out i = 129 - i
+
+loop-holds : tie.Need-loop-holds Inv-loop μ-loop
+loop-holds c = (omega arith, filled-none _ _)
+
+row-kept-requires : tie.Need-row-kept-requires Inv-loop μ-loop
+row-kept-requires c κs = search needs
+
+array-write-out : tie.Need-array-write-out Inv-loop μ-loop
+array-write-out c = omega arith
+
+add-i : tie.Need-add-i Inv-loop μ-loop
+add-i c = omega arith
+
+loop-less : tie.Need-loop-less Inv-loop μ-loop
+loop-less c = omega arith
+
+loop-again : tie.Need-loop-again Inv-loop μ-loop
+loop-again c = (omega arith, filled-more _ _ _ _ _ (c .before .loop-test .taken) (c .row-kept .ensures) (c .before .before .loop .inv .1))
+
+returns : tie.Need-returns Inv-loop μ-loop
+returns c = filled-all _ _ _ _ (c .loop-test .left) (c .before .loop .inv .1)
+
+pub rows-kept-spec : {M : Type 1} → statement M
+rows-kept-spec =
+    tie.close
+    (tie.spec
+    Inv-loop
+    μ-loop
+    loop-holds
+    row-kept-requires
+    array-write-out
+    add-i
+    loop-less
+    loop-again
+    returns)

@@ -1,0 +1,2 @@
+-- What the contracts of settled tables speak of.
+pub mod Settled

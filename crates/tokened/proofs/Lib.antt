@@ -1,0 +1,4 @@
+-- Laws that the proofs of the groups cite.
+pub mod Tokens
+pub mod Groups
+pub mod Returned

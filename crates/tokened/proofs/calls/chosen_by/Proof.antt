@@ -1,0 +1,38 @@
+use borrow.Author.Needs.{needs}
+use Rattle.cells.specs.Cells.{actC}
+use Rattle.tokened.proofs.Tokens.{is-callvirt, five, no-token, by-token}
+use Rattle.tokened.proofs.calls.chosen_by.Statement.{statement}
+use Rattle.tokened.proofs.calls.chosen_by.Tie as tie
+
+whole-requires : tie.Need-whole-requires
+whole-requires c κs = search needs
+
+ends-requires : tie.Need-ends-requires
+ends-requires c κs = search needs
+
+returns : tie.Need-returns
+returns c =
+    rw (c .ends .ensures) (c .before .before .before .before .pre .0, λ L D s calls starts returned rooted chosen marked fits e. no-token L D _ _ is-callvirt (c .before .before .before .before .pre .1 .0 .0) e (c .before .before .whole .ensures) (c .before .if1 .taken))
+
+four-after-requires : tie.Need-four-after-requires
+four-after-requires c κs = five _ _ (c .before .whole .ensures) (c .if1 .left)
+
+callvirt-requires : tie.Need-callvirt-requires
+callvirt-requires c κs =
+    (c .before .before .before .before .before .before .before .before .before .before .pre .0, c .before .before .before .before .before .before .before .before .before .before .pre .1 .1)
+
+returns-2 : tie.Need-returns-2
+unfolding actC
+returns-2 c =
+    (c .callvirt .ensures .0, λ L D s calls starts returned rooted chosen marked fits e. by-token L D _ _ is-callvirt (c .before .before .before .before .before .before .before .before .before .before .before .pre .1 .0 .0) e (c .before .before .before .before .before .before .before .before .before .whole .ensures) (c .before .before .before .before .before .before .before .before .if1 .left) (c .before .before .before .before .before .before .before .four-after .ensures .0) (c .callvirt .ensures .1 L s D calls starts returned rooted chosen marked fits))
+
+pub chosen-by-spec : {M : Type 1} → statement M
+chosen-by-spec =
+    tie.close
+    (tie.spec
+    whole-requires
+    ends-requires
+    returns
+    four-after-requires
+    callvirt-requires
+    returns-2)

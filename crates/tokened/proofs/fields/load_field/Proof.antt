@@ -1,0 +1,42 @@
+use borrow.Author.Needs.{needs}
+use Rattle.cells.specs.Cells.{actC}
+use Rattle.tokened.proofs.Tokens.{is-ldfld, five, no-token, by-token}
+use Rattle.tokened.proofs.fields.load_field.Statement.{statement}
+use Rattle.tokened.proofs.fields.load_field.Tie as tie
+
+whole-requires : tie.Need-whole-requires
+whole-requires c κs = search needs
+
+ends-requires : tie.Need-ends-requires
+ends-requires c κs = search needs
+
+returns : tie.Need-returns
+returns c =
+    rw (c .ends .ensures) (c .before .before .before .before .pre .0, λ L D s fields starts marked fits placed e. no-token L D _ _ is-ldfld (c .before .before .before .before .pre .1 .0 .0) e (c .before .before .whole .ensures) (c .before .if1 .taken))
+
+four-after-requires : tie.Need-four-after-requires
+four-after-requires c κs = five _ _ (c .before .whole .ensures) (c .if1 .left)
+
+add-ldfld : tie.Need-add-ldfld
+add-ldfld c = search needs
+
+ldfld-requires : tie.Need-ldfld-requires
+ldfld-requires c κs =
+    (c .before .before .before .before .before .before .before .before .before .before .before .before .pre .0, c .before .before .before .before .before .before .before .before .before .before .before .before .pre .1 .1)
+
+returns-2 : tie.Need-returns-2
+unfolding actC
+returns-2 c =
+    (c .ldfld .ensures .0, λ L D s fields starts marked fits placed e. by-token L D _ _ is-ldfld (c .before .before .before .before .before .before .before .before .before .before .before .before .before .pre .1 .0 .0) e (c .before .before .before .before .before .before .before .before .before .before .before .whole .ensures) (c .before .before .before .before .before .before .before .before .before .before .if1 .left) (c .before .before .before .before .before .before .before .before .before .four-after .ensures .0) (c .ldfld .ensures .1 L s fields starts marked fits placed))
+
+pub load-field-spec : {M : Type 1} → statement M
+load-field-spec =
+    tie.close
+    (tie.spec
+    whole-requires
+    ends-requires
+    returns
+    four-after-requires
+    add-ldfld
+    ldfld-requires
+    returns-2)
