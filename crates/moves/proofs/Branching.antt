@@ -1,25 +1,31 @@
 -- What a branch does, by its distance.
 use Prim.Native.Nat.{ℕ, _+_, _-_, _≤_, _<_}
-use mathlib.Core.Path.{_≡_, refl, sym, ap, _∙_}
+use mathlib.Core.Path.{_≡_, refl, _∙_}
 use mathlib.Core.Bool.{true, false}
 use mathlib.Core.Option.{Option, none, some}
 use mathlib.Core.List.{List}
 use native.Mathlib.Omega.{arith}
-use lib.ListN.{length, getD, drop}
+use lib.ListN.{length, getD}
 use borrow.Author.Tests.{lt-ltb, le-ltb, le-leb, lt-leb}
-use Rattle.model.specs.Answer.{Answer, bad, _>>=_, guard, need, pick, onlyIf, orElse}
+use Rattle.model.specs.Answer.{_>>=_, guard, need, pick, onlyIf, orElse}
 use Rattle.model.specs.Loading.{little}
-use Rattle.model.specs.Code.{Jump, target, near, far, instructions, formOf}
+use Rattle.model.specs.Code.{Jump, target, Form, near, far, instructions, formOf}
 use Rattle.tables.specs.declared.Loaded.{Loaded}
+use Rattle.cells.specs.declared.Regs.{Regs}
 use Rattle.cells.specs.declared.Cells.{Cells}
 use Rattle.cells.specs.declared.Derived.{Derived}
-use Rattle.cells.specs.Cells.{Went, actC, branchC}
+use Rattle.cells.specs.Cells.{actC, branchC}
 use Rattle.code.proofs.Forms.{size}
 use Rattle.code.proofs.Decoding.{rest}
-use Rattle.plain.specs.Steps.{Few, Meets}
+use Rattle.plain.specs.declared.Gone.{Gone}
+use Rattle.plain.specs.Gives.{jumpBy}
+use Rattle.plain.specs.Steps.{Ok, Few, Meets, onStack, endsOf}
 use Rattle.plain.proofs.Answers.{stops}
-use Rattle.opcodes.specs.Tries.{actsC}
+use Rattle.opcodes.specs.declared.Tried.{Tried}
+use Rattle.opcodes.specs.Tries.{actsC, Reads, Tries, Others}
 use Rattle.opcodes.proofs.Acting.{acts-cut, acts-near, acts-far}
+use Rattle.opcodes.proofs.Trying.{taken, left}
+use Rattle.moves.proofs.Opcodes.{differ, a-byte, form}
 
 -- ---- Where a distance leads
 
@@ -67,3 +73,30 @@ module _ (L : Loaded) (D : Derived) (part : List ℕ) (c : Cells) (j : Jump) (in
         → actsC L D part c ≡ branchC L c j (some t) (c .regs .at + 5)
     unfolding actC
     far-goes h f p q = acts-far L D part c inside byte j e h ∙ outside L c j _ _ f ∙ rw (q, p)
+
+-- ---- The answer of a group of branches, `f` being the form of their distance
+
+module _ (f : Jump → Form) (ops part kinds bits lengths : List ℕ) (g : Regs) where
+  -- what one branch ensures
+  abbrev pub Branched : ℕ → Gone → Type 0
+  Branched how x =
+      Ok (x .regs)
+      × ((L : Loaded) (D : Derived) (c : Cells) → L .lengths ≡ lengths → Few 1024 lengths → Few 3 kinds
+      → formOf instructions (getD part (g .at) 0) ≡ some (f (jumpBy how)) → getD part (g .at) 0 < 256
+      → Meets (x .ending) (onStack c (x .regs) kinds bits) (onStack c g kinds bits) (actsC L D part (onStack c g kinds bits)))
+
+  -- what the group ensures, t being what it was told
+  abbrev pub Grouped : Tried → ℕ → Tried → Type 0
+  Grouped t b y =
+      Ok (y .gone .regs)
+      × ((t .mine ≡ true → (y ≡ t))
+      × (t .mine ≡ false → (L : Loaded) (D : Derived) (c : Cells) → L .lengths ≡ lengths → Few 1024 lengths → Few 3 kinds
+      → Tries ops b y (onStack c (y .gone .regs) kinds bits) (onStack c g kinds bits) (actsC L D part (onStack c g kinds bits))))
+
+  module _ {t : Tried} {b : ℕ} {y : Tried} (m : t .mine ≡ false) where
+    pub branch-taken : Reads g part b → {x : Gone} → y ≡ record { mine = true; over = false; gone = x } → (how : ℕ) → Branched how x → {k : ℕ} → b ≡ k → formOf instructions k ≡ some (f (jumpBy how)) → Grouped t b y
+    branch-taken r e how x q z =
+        (rw e (x .0), (λ w. absurd (differ w m), λ _ L D c l n k. taken (λ h. onStack c h kinds bits) e (x .1 L D c l n k (form r q z) (a-byte r))))
+
+    pub branch-left : Ok g → y ≡ record { mine = false; over = false; gone = endsOf g 41 } → Others ops b → Grouped t b y
+    branch-left o e r = (rw e o, (λ w. absurd (differ w m), λ _ L D c l n k. left (λ h. onStack c h kinds bits) e r))

@@ -9,7 +9,7 @@ use lib.Dec.{ltb}
 use borrow.Author.Tests.{le-ltb, ltb-true, ltb-false}
 use Rattle.model.specs.Answer.{pick}
 use Rattle.model.specs.Loading.{little}
-use Rattle.model.specs.Code.{Ins, bare, short, _is_, op, un, const, branches, loads, operators, objects, instructions, formOf}
+use Rattle.model.specs.Code.{Ins, short, _is_, op, un, const, branches, loads, operators, objects, instructions, formOf}
 use Rattle.tables.specs.declared.Loaded.{Loaded}
 use Rattle.cells.specs.declared.Cells.{Cells}
 use Rattle.cells.specs.declared.Derived.{Derived}

@@ -4,7 +4,7 @@ use mathlib.Core.Path.{_≡_, refl, sym, ap, subst, _∙_}
 use native.Mathlib.Omega.{arith}
 use mathlib.Core.Bool.{Bool, true, false}
 use mathlib.Core.Option.{Option, some}
-use mathlib.Core.List.{List, _++_}
+use mathlib.Core.List.{List}
 use lib.ListN.{getD}
 use Rattle.model.specs.Answer.{pick}
 use Rattle.model.specs.Code.{Form, near, far, _is_, op, un, const, branches, loads, operators, objects, instructions, formOf}

@@ -2,38 +2,28 @@ use borrow.Author.Needs.{needs}
 use Rattle.moves.proofs.Branching.{forward, too-far-back, back}
 use Rattle.moves.proofs.branches.counted.Statement.{statement}
 use Rattle.moves.proofs.branches.counted.Tie as tie
-use Rattle.moves.proofs.branches.counted.Reads as reads
-use Rattle.moves.proofs.branches.counted.Lts as lts
 
--- src/branches.rt:33:16
 add-result : tie.Need-add-result
 add-result c = search needs
 
--- src/branches.rt:33:9
 returns : tie.Need-returns
 returns c = forward _ _ _ (c .if1 .taken)
 
--- src/branches.rt:35:16
 add-full : tie.Need-add-full
 add-full c = search needs
 
--- src/branches.rt:36:8
 add-if2 : tie.Need-add-if2
 add-if2 c = search needs
 
--- src/branches.rt:37:9
 returns-2 : tie.Need-returns-2
 returns-2 c = too-far-back _ _ _ (c .before .if1 .left) (c .if2 .taken)
 
--- src/branches.rt:39:5
 add-result-2 : tie.Need-add-result-2
 add-result-2 c = search needs
 
--- src/branches.rt:39:5
 sub-result : tie.Need-sub-result
 sub-result c = search needs
 
--- src/branches.rt:28:1
 returns-3 : tie.Need-returns-3
 returns-3 c = back _ _ _ (c .before .if1 .left) (c .if2 .left)
 

@@ -4,45 +4,30 @@ use Rattle.moves.proofs.Whole.{is-whole, is-cut}
 use Rattle.moves.proofs.Branching.{far-cut, far-goes}
 use Rattle.moves.proofs.branches.far.Statement.{statement}
 use Rattle.moves.proofs.branches.far.Tie as tie
-use Rattle.moves.proofs.branches.far.Reads as reads
-use Rattle.moves.proofs.branches.far.Lts as lts
-use Rattle.moves.proofs.branches.counted.Reads as counted-reads
-use Rattle.opcodes.proofs.operands.four_after.Reads as four-after-reads
-use Rattle.opcodes.proofs.operands.whole.Reads as whole-reads
-use Rattle.plain.proofs.branches.branch.Reads as branch-reads
-use Rattle.plain.proofs.stack.ends.Reads as ends-reads
 
--- src/branches.rt:74:9
 whole-requires : tie.Need-whole-requires
 whole-requires c κs = search needs
 
--- src/branches.rt:75:9
 ends-requires : tie.Need-ends-requires
 ends-requires c κs = search needs
 
--- src/branches.rt:75:9
 returns : tie.Need-returns
 returns c =
     rw (c .ends .ensures)
     (search needs, λ L D s l f k e b. far-cut L D _ _ _ (c .before .before .before .before .pre .1 .0) b e (is-cut _ _ (c .before .before .whole .ensures) (c .before .if1 .taken)))
 
--- src/branches.rt:77:16
 add-next : tie.Need-add-next
 add-next c = search needs
 
--- src/branches.rt:78:44
 four-after-requires : tie.Need-four-after-requires
 four-after-requires c κs = is-whole _ _ (c .before .before .whole .ensures) (c .before .if1 .left)
 
--- src/branches.rt:78:9
 counted-requires : tie.Need-counted-requires
 counted-requires c κs = search needs
 
--- src/branches.rt:79:5
 branch-requires : tie.Need-branch-requires
 branch-requires c κs = search needs
 
--- src/branches.rt:63:1
 returns-2 : tie.Need-returns-2
 returns-2 c =
     (c .branch .ensures .0, λ L D s l f k e b. instead (far-goes L D _ _ _ (c .before .before .before .before .before .before .before .pre .1 .0) b e (is-whole _ _ (c .before .before .before .before .before .whole .ensures) (c .before .before .before .before .if1 .left)) (rw l f) (c .before .before .four-after .ensures .0) (c .before .counted .ensures)) (c .branch .ensures .1 L s l k))

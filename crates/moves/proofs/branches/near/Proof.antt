@@ -4,45 +4,30 @@ use Rattle.moves.proofs.Whole.{is-whole, is-cut}
 use Rattle.moves.proofs.Branching.{near-cut, near-goes}
 use Rattle.moves.proofs.branches.near.Statement.{statement}
 use Rattle.moves.proofs.branches.near.Tie as tie
-use Rattle.moves.proofs.branches.near.Reads as reads
-use Rattle.moves.proofs.branches.near.Lts as lts
-use Rattle.moves.proofs.branches.counted.Reads as counted-reads
-use Rattle.opcodes.proofs.operands.byte_after.Reads as byte-after-reads
-use Rattle.opcodes.proofs.operands.whole.Reads as whole-reads
-use Rattle.plain.proofs.branches.branch.Reads as branch-reads
-use Rattle.plain.proofs.stack.ends.Reads as ends-reads
 
--- src/branches.rt:54:9
 whole-requires : tie.Need-whole-requires
 whole-requires c κs = search needs
 
--- src/branches.rt:55:9
 ends-requires : tie.Need-ends-requires
 ends-requires c κs = search needs
 
--- src/branches.rt:55:9
 returns : tie.Need-returns
 returns c =
     rw (c .ends .ensures)
     (search needs, λ L D s l f k e b. near-cut L D _ _ _ (c .before .before .before .before .pre .1 .0) b e (is-cut _ _ (c .before .before .whole .ensures) (c .before .if1 .taken)))
 
--- src/branches.rt:57:16
 add-next : tie.Need-add-next
 add-next c = search needs
 
--- src/branches.rt:58:38
 byte-after-requires : tie.Need-byte-after-requires
 byte-after-requires c κs = is-whole _ _ (c .before .before .whole .ensures) (c .before .if1 .left)
 
--- src/branches.rt:58:9
 counted-requires : tie.Need-counted-requires
 counted-requires c κs = search needs
 
--- src/branches.rt:59:5
 branch-requires : tie.Need-branch-requires
 branch-requires c κs = search needs
 
--- src/branches.rt:43:1
 returns-2 : tie.Need-returns-2
 returns-2 c =
     (c .branch .ensures .0, λ L D s l f k e b. instead (near-goes L D _ _ _ (c .before .before .before .before .before .before .before .pre .1 .0) b e (is-whole _ _ (c .before .before .before .before .before .whole .ensures) (c .before .before .before .before .if1 .left)) (rw l f) (c .before .before .byte-after .ensures .0) (c .before .counted .ensures)) (c .branch .ensures .1 L s l k))

@@ -1,15 +1,10 @@
 use borrow.Author.Needs.{needs}
 use mathlib.Core.Path.{refl}
-use Rattle.plain.specs.Steps.{onStack}
-use Rattle.opcodes.proofs.Trying.{taken, left}
-use Rattle.moves.proofs.Opcodes.{differ, a-byte, form, nears}
+use Rattle.model.specs.Code.{near}
+use Rattle.moves.proofs.Opcodes.{differ, nears}
+use Rattle.moves.proofs.Branching.{branch-taken, branch-left}
 use Rattle.moves.proofs.branches.near_branches.Statement.{statement}
 use Rattle.moves.proofs.branches.near_branches.Tie as tie
-use Rattle.moves.proofs.branches.near_branches.Reads as reads
-use Rattle.moves.proofs.branches.near_branches.Lts as lts
-use Rattle.moves.proofs.branches.near.Reads as near-reads
-use Rattle.opcodes.proofs.mine.Reads as mine-reads
-use Rattle.opcodes.proofs.other.Reads as other-reads
 
 returns : tie.Need-returns
 returns c = (search needs, (λ _. refl, λ z. absurd (differ (c .if1 .taken) z)))
@@ -97,73 +92,59 @@ other-requires c κs = search needs
 
 returns-2 : tie.Need-returns-2
 returns-2 c =
-    let a = c .before .before .before .before .before in
-    (rw (c .mine .ensures) (c .before .near .ensures .0), (λ z. absurd (differ z (c .before .before .before .if1 .left)), λ _ L D s l f k. taken (λ h. onStack s h (a .args .kinds .now) (a .args .bits .now)) (c .mine .ensures) (c .before .near .ensures .1 L D s l f k (form (a .pre .1 .1) (c .before .before .match .keys1) (nears .0)) (a-byte (a .pre .1 .1)))))
+    branch-taken near _ _ _ _ _ _ (c .before .before .before .if1 .left) (c .before .before .before .before .before .pre .1 .1) (c .mine .ensures) _ (c .before .near .ensures) (c .before .before .match .keys1) (nears .0)
 
 returns-3 : tie.Need-returns-3
 returns-3 c =
-    let a = c .before .before .before .before .before in
-    (rw (c .mine2 .ensures) (c .before .near2 .ensures .0), (λ z. absurd (differ z (c .before .before .before .if1 .left)), λ _ L D s l f k. taken (λ h. onStack s h (a .args .kinds .now) (a .args .bits .now)) (c .mine2 .ensures) (c .before .near2 .ensures .1 L D s l f k (form (a .pre .1 .1) (c .before .before .match .keys2) (nears .1)) (a-byte (a .pre .1 .1)))))
+    branch-taken near _ _ _ _ _ _ (c .before .before .before .if1 .left) (c .before .before .before .before .before .pre .1 .1) (c .mine2 .ensures) _ (c .before .near2 .ensures) (c .before .before .match .keys2) (nears .1)
 
 returns-4 : tie.Need-returns-4
 returns-4 c =
-    let a = c .before .before .before .before .before in
-    (rw (c .mine3 .ensures) (c .before .near3 .ensures .0), (λ z. absurd (differ z (c .before .before .before .if1 .left)), λ _ L D s l f k. taken (λ h. onStack s h (a .args .kinds .now) (a .args .bits .now)) (c .mine3 .ensures) (c .before .near3 .ensures .1 L D s l f k (form (a .pre .1 .1) (c .before .before .match .keys3) (nears .2)) (a-byte (a .pre .1 .1)))))
+    branch-taken near _ _ _ _ _ _ (c .before .before .before .if1 .left) (c .before .before .before .before .before .pre .1 .1) (c .mine3 .ensures) _ (c .before .near3 .ensures) (c .before .before .match .keys3) (nears .2)
 
 returns-5 : tie.Need-returns-5
 returns-5 c =
-    let a = c .before .before .before .before .before in
-    (rw (c .mine4 .ensures) (c .before .near4 .ensures .0), (λ z. absurd (differ z (c .before .before .before .if1 .left)), λ _ L D s l f k. taken (λ h. onStack s h (a .args .kinds .now) (a .args .bits .now)) (c .mine4 .ensures) (c .before .near4 .ensures .1 L D s l f k (form (a .pre .1 .1) (c .before .before .match .keys4) (nears .3)) (a-byte (a .pre .1 .1)))))
+    branch-taken near _ _ _ _ _ _ (c .before .before .before .if1 .left) (c .before .before .before .before .before .pre .1 .1) (c .mine4 .ensures) _ (c .before .near4 .ensures) (c .before .before .match .keys4) (nears .3)
 
 returns-6 : tie.Need-returns-6
 returns-6 c =
-    let a = c .before .before .before .before .before in
-    (rw (c .mine5 .ensures) (c .before .near5 .ensures .0), (λ z. absurd (differ z (c .before .before .before .if1 .left)), λ _ L D s l f k. taken (λ h. onStack s h (a .args .kinds .now) (a .args .bits .now)) (c .mine5 .ensures) (c .before .near5 .ensures .1 L D s l f k (form (a .pre .1 .1) (c .before .before .match .keys5) (nears .4)) (a-byte (a .pre .1 .1)))))
+    branch-taken near _ _ _ _ _ _ (c .before .before .before .if1 .left) (c .before .before .before .before .before .pre .1 .1) (c .mine5 .ensures) _ (c .before .near5 .ensures) (c .before .before .match .keys5) (nears .4)
 
 returns-7 : tie.Need-returns-7
 returns-7 c =
-    let a = c .before .before .before .before .before in
-    (rw (c .mine6 .ensures) (c .before .near6 .ensures .0), (λ z. absurd (differ z (c .before .before .before .if1 .left)), λ _ L D s l f k. taken (λ h. onStack s h (a .args .kinds .now) (a .args .bits .now)) (c .mine6 .ensures) (c .before .near6 .ensures .1 L D s l f k (form (a .pre .1 .1) (c .before .before .match .keys6) (nears .5)) (a-byte (a .pre .1 .1)))))
+    branch-taken near _ _ _ _ _ _ (c .before .before .before .if1 .left) (c .before .before .before .before .before .pre .1 .1) (c .mine6 .ensures) _ (c .before .near6 .ensures) (c .before .before .match .keys6) (nears .5)
 
 returns-8 : tie.Need-returns-8
 returns-8 c =
-    let a = c .before .before .before .before .before in
-    (rw (c .mine7 .ensures) (c .before .near7 .ensures .0), (λ z. absurd (differ z (c .before .before .before .if1 .left)), λ _ L D s l f k. taken (λ h. onStack s h (a .args .kinds .now) (a .args .bits .now)) (c .mine7 .ensures) (c .before .near7 .ensures .1 L D s l f k (form (a .pre .1 .1) (c .before .before .match .keys7) (nears .6)) (a-byte (a .pre .1 .1)))))
+    branch-taken near _ _ _ _ _ _ (c .before .before .before .if1 .left) (c .before .before .before .before .before .pre .1 .1) (c .mine7 .ensures) _ (c .before .near7 .ensures) (c .before .before .match .keys7) (nears .6)
 
 returns-9 : tie.Need-returns-9
 returns-9 c =
-    let a = c .before .before .before .before .before in
-    (rw (c .mine8 .ensures) (c .before .near8 .ensures .0), (λ z. absurd (differ z (c .before .before .before .if1 .left)), λ _ L D s l f k. taken (λ h. onStack s h (a .args .kinds .now) (a .args .bits .now)) (c .mine8 .ensures) (c .before .near8 .ensures .1 L D s l f k (form (a .pre .1 .1) (c .before .before .match .keys8) (nears .7)) (a-byte (a .pre .1 .1)))))
+    branch-taken near _ _ _ _ _ _ (c .before .before .before .if1 .left) (c .before .before .before .before .before .pre .1 .1) (c .mine8 .ensures) _ (c .before .near8 .ensures) (c .before .before .match .keys8) (nears .7)
 
 returns-10 : tie.Need-returns-10
 returns-10 c =
-    let a = c .before .before .before .before .before in
-    (rw (c .mine9 .ensures) (c .before .near9 .ensures .0), (λ z. absurd (differ z (c .before .before .before .if1 .left)), λ _ L D s l f k. taken (λ h. onStack s h (a .args .kinds .now) (a .args .bits .now)) (c .mine9 .ensures) (c .before .near9 .ensures .1 L D s l f k (form (a .pre .1 .1) (c .before .before .match .keys9) (nears .8)) (a-byte (a .pre .1 .1)))))
+    branch-taken near _ _ _ _ _ _ (c .before .before .before .if1 .left) (c .before .before .before .before .before .pre .1 .1) (c .mine9 .ensures) _ (c .before .near9 .ensures) (c .before .before .match .keys9) (nears .8)
 
 returns-11 : tie.Need-returns-11
 returns-11 c =
-    let a = c .before .before .before .before .before in
-    (rw (c .mine10 .ensures) (c .before .near10 .ensures .0), (λ z. absurd (differ z (c .before .before .before .if1 .left)), λ _ L D s l f k. taken (λ h. onStack s h (a .args .kinds .now) (a .args .bits .now)) (c .mine10 .ensures) (c .before .near10 .ensures .1 L D s l f k (form (a .pre .1 .1) (c .before .before .match .keys10) (nears .9)) (a-byte (a .pre .1 .1)))))
+    branch-taken near _ _ _ _ _ _ (c .before .before .before .if1 .left) (c .before .before .before .before .before .pre .1 .1) (c .mine10 .ensures) _ (c .before .near10 .ensures) (c .before .before .match .keys10) (nears .9)
 
 returns-12 : tie.Need-returns-12
 returns-12 c =
-    let a = c .before .before .before .before .before in
-    (rw (c .mine11 .ensures) (c .before .near11 .ensures .0), (λ z. absurd (differ z (c .before .before .before .if1 .left)), λ _ L D s l f k. taken (λ h. onStack s h (a .args .kinds .now) (a .args .bits .now)) (c .mine11 .ensures) (c .before .near11 .ensures .1 L D s l f k (form (a .pre .1 .1) (c .before .before .match .keys11) (nears .10)) (a-byte (a .pre .1 .1)))))
+    branch-taken near _ _ _ _ _ _ (c .before .before .before .if1 .left) (c .before .before .before .before .before .pre .1 .1) (c .mine11 .ensures) _ (c .before .near11 .ensures) (c .before .before .match .keys11) (nears .10)
 
 returns-13 : tie.Need-returns-13
 returns-13 c =
-    let a = c .before .before .before .before .before in
-    (rw (c .mine12 .ensures) (c .before .near12 .ensures .0), (λ z. absurd (differ z (c .before .before .before .if1 .left)), λ _ L D s l f k. taken (λ h. onStack s h (a .args .kinds .now) (a .args .bits .now)) (c .mine12 .ensures) (c .before .near12 .ensures .1 L D s l f k (form (a .pre .1 .1) (c .before .before .match .keys12) (nears .11)) (a-byte (a .pre .1 .1)))))
+    branch-taken near _ _ _ _ _ _ (c .before .before .before .if1 .left) (c .before .before .before .before .before .pre .1 .1) (c .mine12 .ensures) _ (c .before .near12 .ensures) (c .before .before .match .keys12) (nears .11)
 
 returns-14 : tie.Need-returns-14
 returns-14 c =
-    let a = c .before .before .before .before .before in
-    (rw (c .mine13 .ensures) (c .before .near13 .ensures .0), (λ z. absurd (differ z (c .before .before .before .if1 .left)), λ _ L D s l f k. taken (λ h. onStack s h (a .args .kinds .now) (a .args .bits .now)) (c .mine13 .ensures) (c .before .near13 .ensures .1 L D s l f k (form (a .pre .1 .1) (c .before .before .match .keys13) (nears .12)) (a-byte (a .pre .1 .1)))))
+    branch-taken near _ _ _ _ _ _ (c .before .before .before .if1 .left) (c .before .before .before .before .before .pre .1 .1) (c .mine13 .ensures) _ (c .before .near13 .ensures) (c .before .before .match .keys13) (nears .12)
 
 returns-15 : tie.Need-returns-15
 returns-15 c =
-    let a = c .before .before .before .before in
-    (rw (c .other .ensures) (a .pre .0), (λ z. absurd (differ z (c .before .before .if1 .left)), λ _ L D s l f k. left (λ h. onStack s h (a .args .kinds .now) (a .args .bits .now)) (c .other .ensures) (c .before .match .rest)))
+    branch-left near _ _ _ _ _ _ (c .before .before .if1 .left) (c .before .before .before .before .pre .0) (c .other .ensures) (c .before .match .rest)
 
 pub near-branches-spec : {M : Type 1} → statement M
 near-branches-spec =

@@ -3,9 +3,6 @@ use borrow.Author.Tests.{lt-ltb, le-ltb}
 use Rattle.model.specs.Answer.{pick}
 use Rattle.moves.proofs.variables.index.Statement.{statement}
 use Rattle.moves.proofs.variables.index.Tie as tie
-use Rattle.moves.proofs.variables.index.Reads as reads
-use Rattle.moves.proofs.variables.index.Lts as lts
-use Rattle.opcodes.proofs.operands.byte_after.Reads as byte-after-reads
 
 returns : tie.Need-returns
 unfolding pick

@@ -6,13 +6,6 @@ use Rattle.moves.proofs.Whole.{is-whole, is-cut}
 use Rattle.moves.proofs.Numbering.{one-more, numbered-cut, numbered-goes}
 use Rattle.moves.proofs.variables.load_argument.Statement.{statement}
 use Rattle.moves.proofs.variables.load_argument.Tie as tie
-use Rattle.moves.proofs.variables.load_argument.Reads as reads
-use Rattle.moves.proofs.variables.load_argument.Lts as lts
-use Rattle.moves.proofs.variables.index.Reads as index-reads
-use Rattle.moves.proofs.variables.width.Reads as width-reads
-use Rattle.opcodes.proofs.operands.whole.Reads as whole-reads
-use Rattle.plain.proofs.locals.ldarg.Reads as ldarg-reads
-use Rattle.plain.proofs.stack.ends.Reads as ends-reads
 
 width-requires : tie.Need-width-requires
 width-requires c κs = search needs

@@ -2,8 +2,6 @@ use Rattle.moves.specs.Variables.{Names}
 use Rattle.moves.proofs.Numbering.{named, names}
 use Rattle.moves.proofs.variables.variable_of.Statement.{statement}
 use Rattle.moves.proofs.variables.variable_of.Tie as tie
-use Rattle.moves.proofs.variables.variable_of.Reads as reads
-use Rattle.moves.proofs.variables.variable_of.Lts as lts
 
 returns : tie.Need-returns
 returns c = named _ (c .match .keys1) (names .0)

@@ -5,15 +5,6 @@ use Rattle.moves.proofs.Opcodes.{differ, a-byte}
 use Rattle.moves.proofs.Variable.{is-ldarg, is-starg, is-ldloc, is-stloc, not-ours, variable-taken, variable-left}
 use Rattle.moves.proofs.variables.variables.Statement.{statement}
 use Rattle.moves.proofs.variables.variables.Tie as tie
-use Rattle.moves.proofs.variables.variables.Reads as reads
-use Rattle.moves.proofs.variables.variables.Lts as lts
-use Rattle.moves.proofs.variables.load_argument.Reads as load-argument-reads
-use Rattle.moves.proofs.variables.load_local.Reads as load-local-reads
-use Rattle.moves.proofs.variables.store_argument.Reads as store-argument-reads
-use Rattle.moves.proofs.variables.store_local.Reads as store-local-reads
-use Rattle.moves.proofs.variables.variable_of.Reads as variable-of-reads
-use Rattle.opcodes.proofs.mine.Reads as mine-reads
-use Rattle.opcodes.proofs.other.Reads as other-reads
 
 returns : tie.Need-returns
 returns c =
@@ -65,29 +56,66 @@ other-requires : tie.Need-other-requires
 other-requires c κs = search needs
 
 returns-2 : tie.Need-returns-2
-returns-2 c =
-    let a = c .before .before .before .before .before .before .before .before .before .before .before in
-    (rw (c .mine .ensures) (c .before .load-argument .ensures .0), (λ z. absurd (differ z (c .before .before .before .before .before .before .before .before .before .if1 .left)), λ _ L D s k t x o f h p. variable-taken s (c .mine .ensures) (c .before .load-argument .ensures .1 L D (withLocs (withHeap s (a .args .classes .now) (s .heap)) (a .args .locs .now)) k t x (is-ldarg (a .pre .1 .1 .0) (c .before .before .before .before .before .before .i .given .1) (c .before .before .before .before .before .before .before .before .variable-of .ensures)) (a-byte (a .pre .1 .1 .0)))))
+returns-2 c = (
+  rw (c .mine .ensures) (c .before .load-argument .ensures .0),
+  (
+    λ z. absurd (differ z (c .before .before .before .before .before .before .before .before .before .if1 .left)),
+    λ _ L D s k t x o f h p.
+        variable-taken s (c .mine .ensures)
+        (c .before .load-argument .ensures .1 L D (withLocs (withHeap s (c .before .before .before .before .before .before .before .before .before .before .before .args .classes .now) (s .heap)) (c .before .before .before .before .before .before .before .before .before .before .before .args .locs .now)) k t x
+        (is-ldarg (c .before .before .before .before .before .before .before .before .before .before .before .pre .1 .1 .0) (c .before .before .before .before .before .before .i .given .1) (c .before .before .before .before .before .before .before .before .variable-of .ensures))
+        (a-byte (c .before .before .before .before .before .before .before .before .before .before .before .pre .1 .1 .0))),
+  ),
+)
 
 returns-3 : tie.Need-returns-3
-returns-3 c =
-    let a = c .before .before .before .before .before .before .before .before .before .before .before in
-    (rw (c .mine2 .ensures) (c .before .store-argument .ensures .0), (λ z. absurd (differ z (c .before .before .before .before .before .before .before .before .before .if1 .left)), λ _ L D s k t x o f h p. variable-taken s (c .mine2 .ensures) (c .before .store-argument .ensures .1 L D (withLocs s (a .args .locs .now)) t x f h p (is-starg (a .pre .1 .1 .0) (c .before .before .before .before .before .before .i2 .given .1) (c .before .before .before .before .before .before .before .before .variable-of .ensures)) (a-byte (a .pre .1 .1 .0)))))
+returns-3 c = (
+  rw (c .mine2 .ensures) (c .before .store-argument .ensures .0),
+  (
+    λ z. absurd (differ z (c .before .before .before .before .before .before .before .before .before .if1 .left)),
+    λ _ L D s k t x o f h p.
+        variable-taken s (c .mine2 .ensures)
+        (c .before .store-argument .ensures .1 L D (withLocs s (c .before .before .before .before .before .before .before .before .before .before .before .args .locs .now)) t x f h p
+        (is-starg (c .before .before .before .before .before .before .before .before .before .before .before .pre .1 .1 .0) (c .before .before .before .before .before .before .i2 .given .1) (c .before .before .before .before .before .before .before .before .variable-of .ensures))
+        (a-byte (c .before .before .before .before .before .before .before .before .before .before .before .pre .1 .1 .0))),
+  ),
+)
 
 returns-4 : tie.Need-returns-4
-returns-4 c =
-    let a = c .before .before .before .before .before .before .before .before .before .before .before in
-    (rw (c .mine3 .ensures) (c .before .load-local .ensures .0), (λ z. absurd (differ z (c .before .before .before .before .before .before .before .before .before .if1 .left)), λ _ L D s k t x o f h p. variable-taken s (c .mine3 .ensures) (c .before .load-local .ensures .1 L D (withArgs (withHeap s (a .args .classes .now) (s .heap)) (a .args .args .now)) k t o (is-ldloc (a .pre .1 .1 .0) (c .before .before .before .before .before .before .i3 .given .1) (c .before .before .before .before .before .before .before .before .variable-of .ensures)) (a-byte (a .pre .1 .1 .0)))))
+returns-4 c = (
+  rw (c .mine3 .ensures) (c .before .load-local .ensures .0),
+  (
+    λ z. absurd (differ z (c .before .before .before .before .before .before .before .before .before .if1 .left)),
+    λ _ L D s k t x o f h p.
+        variable-taken s (c .mine3 .ensures)
+        (c .before .load-local .ensures .1 L D (withArgs (withHeap s (c .before .before .before .before .before .before .before .before .before .before .before .args .classes .now) (s .heap)) (c .before .before .before .before .before .before .before .before .before .before .before .args .args .now)) k t o
+        (is-ldloc (c .before .before .before .before .before .before .before .before .before .before .before .pre .1 .1 .0) (c .before .before .before .before .before .before .i3 .given .1) (c .before .before .before .before .before .before .before .before .variable-of .ensures))
+        (a-byte (c .before .before .before .before .before .before .before .before .before .before .before .pre .1 .1 .0))),
+  ),
+)
 
 returns-5 : tie.Need-returns-5
-returns-5 c =
-    let a = c .before .before .before .before .before .before .before .before .before .before .before in
-    (rw (c .mine4 .ensures) (c .before .store-local .ensures .0), (λ z. absurd (differ z (c .before .before .before .before .before .before .before .before .before .if1 .left)), λ _ L D s k t x o f h p. variable-taken s (c .mine4 .ensures) (c .before .store-local .ensures .1 L D (withArgs s (a .args .args .now)) t o f h p (is-stloc (a .pre .1 .1 .0) (c .before .before .before .before .before .before .i4 .given .1) (c .before .before .before .before .before .before .before .before .variable-of .ensures)) (a-byte (a .pre .1 .1 .0)))))
+returns-5 c = (
+  rw (c .mine4 .ensures) (c .before .store-local .ensures .0),
+  (
+    λ z. absurd (differ z (c .before .before .before .before .before .before .before .before .before .if1 .left)),
+    λ _ L D s k t x o f h p.
+        variable-taken s (c .mine4 .ensures)
+        (c .before .store-local .ensures .1 L D (withArgs s (c .before .before .before .before .before .before .before .before .before .before .before .args .args .now)) t o f h p
+        (is-stloc (c .before .before .before .before .before .before .before .before .before .before .before .pre .1 .1 .0) (c .before .before .before .before .before .before .i4 .given .1) (c .before .before .before .before .before .before .before .before .variable-of .ensures))
+        (a-byte (c .before .before .before .before .before .before .before .before .before .before .before .pre .1 .1 .0))),
+  ),
+)
 
 returns-6 : tie.Need-returns-6
-returns-6 c =
-    let a = c .before .before .before .before .before .before in
-    (rw (c .other .ensures) (a .pre .0), (λ z. absurd (differ z (c .before .before .before .before .if1 .left)), λ _ L D s k t x o f h p. variable-left s (c .other .ensures) (not-ours _ (c .before .enum-told .given .1) (c .before .before .before .variable-of .ensures))))
+returns-6 c = (
+  rw (c .other .ensures) (c .before .before .before .before .before .before .pre .0),
+  (
+    λ z. absurd (differ z (c .before .before .before .before .if1 .left)),
+    λ _ L D s k t x o f h p.
+        variable-left s (c .other .ensures) (not-ours _ (c .before .enum-told .given .1) (c .before .before .before .variable-of .ensures)),
+  ),
+)
 
 pub variables-spec : {M : Type 1} → statement M
 variables-spec =

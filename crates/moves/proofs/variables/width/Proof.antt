@@ -3,8 +3,6 @@ use borrow.Author.Tests.{lt-ltb, le-ltb}
 use Rattle.model.specs.Answer.{pick}
 use Rattle.moves.proofs.variables.width.Statement.{statement}
 use Rattle.moves.proofs.variables.width.Tie as tie
-use Rattle.moves.proofs.variables.width.Reads as reads
-use Rattle.moves.proofs.variables.width.Lts as lts
 
 returns : tie.Need-returns
 unfolding pick

@@ -1,0 +1,2 @@
+-- What the contracts of the run speak of.
+pub mod Running

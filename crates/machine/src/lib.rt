@@ -1,0 +1,2 @@
+// The machine: the loop over the steps, within the budget.
+pub mod steps; // the loop
