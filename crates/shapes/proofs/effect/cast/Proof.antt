@@ -21,36 +21,28 @@ P0 c = pool (c .args .tops .now) (c .args .belows .now) (c .args .heights .now) 
 
 -- end
 
--- src/effect.rt:121:13
 element-copy-out-h : tie.Need-element-copy-out-h
 element-copy-out-h c = search needs
 
--- src/effect.rt:123:9
 fault-requires : tie.Need-fault-requires
 fault-requires c κs = search needs
 
--- src/effect.rt:123:9
 returns : tie.Need-returns
 returns c =
     (search needs, λ k q f S w. refuses (P0 (c .before .before .before)) (c .fault .result) 13 (castEffect k S) (few-1 (P0 (c .before .before .before)) (castEffect k) (c .before .before .before .args .s) 13 (cast-few k) (c .before .if1 .taken) S w) (omega arith) (c .fault .ensures) f)
 
--- src/effect.rt:125:16
 element-copy-out-kind-of : tie.Need-element-copy-out-kind-of
 element-copy-out-kind-of c = search needs
 
--- src/effect.rt:125:8
 kind-of-requires : tie.Need-kind-of-requires
 kind-of-requires c κs = search needs
 
--- src/effect.rt:126:13
 below-requires : tie.Need-below-requires
 below-requires c κs = search needs
 
--- src/effect.rt:127:9
 put-requires : tie.Need-put-requires
 put-requires c κs = search needs
 
--- src/effect.rt:127:9
 returns-2 : tie.Need-returns-2
 returns-2 c = (
   search needs,
@@ -61,11 +53,9 @@ returns-2 c = (
       (search needs) (c .put .ensures) q (o .height) (o .below _ (c .before .before .before .before .below .ensures .1)) f,
 )
 
--- src/effect.rt:129:5
 fault-requires-2 : tie.Need-fault-requires-2
 fault-requires-2 c κs = search needs
 
--- src/effect.rt:117:1
 returns-3 : tie.Need-returns-3
 returns-3 c = (
   search needs,

@@ -19,28 +19,22 @@ P0 c = pool (c .args .tops .now) (c .args .belows .now) (c .args .heights .now) 
 
 -- end
 
--- src/effect.rt:41:8
 element-copy-out-if1 : tie.Need-element-copy-out-if1
 element-copy-out-if1 c = search needs
 
--- src/effect.rt:42:9
 fault-requires : tie.Need-fault-requires
 fault-requires c κs = search needs
 
--- src/effect.rt:42:9
 returns : tie.Need-returns
 returns c =
     (search needs, λ M m e f S w. refuses (P0 (c .before .before .before)) (c .fault .result) 13 (plainEffect M m dup S) (few-1 (P0 (c .before .before .before)) (plainEffect M m dup) (c .before .before .before .args .s) 13 (dup-few M m) (c .before .if1 .taken) S w) (omega arith) (c .fault .ensures) f)
 
--- src/effect.rt:44:13
 element-copy-out-t : tie.Need-element-copy-out-t
 element-copy-out-t c = search needs
 
--- src/effect.rt:45:5
 push-requires : tie.Need-push-requires
 push-requires c κs = search needs
 
--- src/effect.rt:37:1
 returns-2 : tie.Need-returns-2
 returns-2 c = (
   c .push .ensures .0,

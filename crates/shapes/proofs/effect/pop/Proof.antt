@@ -21,24 +21,19 @@ P0 c l = pool l (c .args .belows .now) (c .args .heights .now) (c .args .made)
 
 -- end
 
--- src/effect.rt:52:8
 element-copy-out-if1 : tie.Need-element-copy-out-if1
 element-copy-out-if1 c = search needs
 
--- src/effect.rt:53:9
 fault-requires : tie.Need-fault-requires
 fault-requires c κs = search needs
 
--- src/effect.rt:53:9
 returns : tie.Need-returns
 returns c =
     (search needs, λ l M m f S w. refuses (P0 (c .before .before .before) l) (c .fault .result) 13 (plainEffect M m pop S) (few-1 (P0 (c .before .before .before) l) (plainEffect M m pop) (c .before .before .before .args .s) 13 (pop-few M m) (c .before .if1 .taken) S w) (omega arith) (c .fault .ensures) f)
 
--- src/effect.rt:57:16
 below-requires : tie.Need-below-requires
 below-requires c κs = search needs
 
--- src/effect.rt:48:1
 returns-2 : tie.Need-returns-2
 returns-2 c = (
   search needs,

@@ -21,28 +21,22 @@ P0 c = pool (c .args .tops .now) (c .args .belows .now) (c .args .heights .now) 
 
 -- end
 
--- src/effect.rt:30:13
 element-copy-out-h : tie.Need-element-copy-out-h
 element-copy-out-h c = search needs
 
--- src/effect.rt:32:9
 fault-requires : tie.Need-fault-requires
 fault-requires c κs = search needs
 
--- src/effect.rt:32:9
 returns : tie.Need-returns
 returns c =
     (search needs, λ m u e q f S w. refuses (P0 (c .before .before .before)) (c .fault .result) 14 (pushes m u S) (push-full m u S _ _ e (height (P0 (c .before .before .before)) S (c .before .before .before .args .s) w) (c .before .if1 .taken)) (omega arith) (c .fault .ensures) f)
 
--- src/effect.rt:34:44
 add-put : tie.Need-add-put
 add-put c = search needs
 
--- src/effect.rt:34:5
 put-requires : tie.Need-put-requires
 put-requires c κs = search needs
 
--- src/effect.rt:26:1
 returns-2 : tie.Need-returns-2
 returns-2 c =
     (search needs, λ m u e q f S w. brings (P0 (c .before .before .before .before .before .before)) (c .put .result) _ _ _ u S (pushes m u S) _ _ _ (push-room m u S _ _ e (height (P0 (c .before .before .before .before .before .before)) S (c .before .before .before .before .before .before .args .s) w) (c .before .before .before .before .if1 .left)) (search needs) (c .put .ensures) q (add-one _ ∙ ap suc (height (P0 (c .before .before .before .before .before .before)) S (c .before .before .before .before .before .before .args .s) w)) w f)

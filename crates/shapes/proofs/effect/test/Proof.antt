@@ -19,32 +19,25 @@ P0 c = pool (c .args .tops .now) (c .args .belows .now) (c .args .heights .now) 
 
 -- end
 
--- src/effect.rt:208:8
 element-copy-out-if1 : tie.Need-element-copy-out-if1
 element-copy-out-if1 c = search needs
 
--- src/effect.rt:209:9
 fault-requires : tie.Need-fault-requires
 fault-requires c κs = search needs
 
--- src/effect.rt:209:9
 returns : tie.Need-returns
 returns c =
     (search needs, λ f S w. settled (P0 (c .before .before .before)) (c .fault .result) _ (c .fault .ensures .2) (refuses (P0 (c .before .before .before)) (c .fault .result) 13 (testEffect S) (few-1 (P0 (c .before .before .before)) testEffect (c .before .before .before .args .s) 13 test-few (c .before .if1 .taken) S w) (omega arith) (c .fault .ensures) f))
 
--- src/effect.rt:211:16
 element-copy-out-kind-of : tie.Need-element-copy-out-kind-of
 element-copy-out-kind-of c = search needs
 
--- src/effect.rt:211:8
 kind-of-requires : tie.Need-kind-of-requires
 kind-of-requires c κs = search needs
 
--- src/effect.rt:212:9
 fault-requires-2 : tie.Need-fault-requires-2
 fault-requires-2 c κs = search needs
 
--- src/effect.rt:212:9
 returns-2 : tie.Need-returns-2
 returns-2 c = (
   search needs,
@@ -53,11 +46,9 @@ returns-2 c = (
       settled (P0 (c .before .before .before .before .before .before)) (c .fault2 .result) _ (c .fault2 .ensures .2) (refuses (P0 (c .before .before .before .before .before .before)) (c .fault2 .result) 15 (testEffect S) (test-wrong (o .top) S (o .rest) (o .is) (sym (c .before .before .kind-of .ensures (o .top) (o .byte)) ∙ c .before .if2 .taken)) (omega arith) (c .fault2 .ensures) f),
 )
 
--- src/effect.rt:216:16
 below-requires : tie.Need-below-requires
 below-requires c κs = search needs
 
--- src/effect.rt:204:1
 returns-3 : tie.Need-returns-3
 returns-3 c = (
   search needs,

@@ -8,17 +8,14 @@ use Rattle.shapes.proofs.fit.class_byte.Tie as tie
 use Rattle.shapes.proofs.fit.class_byte.Reads as reads
 use Rattle.shapes.proofs.fit.class_byte.Lts as lts
 
--- src/fit.rt:22:16
 add-result : tie.Need-add-result
 add-result c = search needs
 
--- src/fit.rt:22:9
 returns : tie.Need-returns
 unfolding byteOf
 returns c =
     λ h. omega arith
 
--- src/fit.rt:18:1
 returns-2 : tie.Need-returns-2
 returns-2 c =
     λ h. let k : 224 ≤ c .before .args .row = c .if1 .left in absurd (omega arith)

@@ -22,54 +22,44 @@ abbrev μ-loop : tie.MeasureT-loop
 μ-loop parents c d n₀ x₀ n x =
     n
 
--- src/fit.rt:43:5
 loop-holds : tie.Need-loop-holds Inv-loop μ-loop
 unfolding descends
 loop-holds c =
     λ ps h. refl
 
--- src/fit.rt:45:13
 returns : tie.Need-returns Inv-loop μ-loop
 returns c =
     λ ps h. climb-zero ps _ _ _ (c .if1 .taken) ∙ c .before .before .loop .inv ps h
 
--- src/fit.rt:48:13
 returns-2 : tie.Need-returns-2 Inv-loop μ-loop
 returns-2 c =
     λ ps h. sym (climb-here ps _ _ _ (c .before .before .loop-test .taken) (pos-of-ne-zero (c .before .if1 .left)) (c .if2 .taken)) ∙ c .before .before .before .loop .inv ps h
 
--- src/fit.rt:51:13
 returns-3 : tie.Need-returns-3 Inv-loop μ-loop
 returns-3 c =
     λ ps h. sym (climb-over ps _ _ _ _ (c .if3 .taken) (c .before .if2 .left) h) ∙ c .before .before .before .before .loop .inv ps h
 
--- src/fit.rt:53:18
 element-copy-out-wide : tie.Need-element-copy-out-wide Inv-loop μ-loop
 element-copy-out-wide c =
     search needs
 
--- src/fit.rt:53:9
 wide-requires : tie.Need-wide-requires Inv-loop μ-loop
 wide-requires c κs =
     search needs
 
--- src/fit.rt:54:9
 sub-n : tie.Need-sub-n Inv-loop μ-loop
 sub-n c =
     omega arith
 
--- src/fit.rt:43:5
 loop-less : tie.Need-loop-less Inv-loop μ-loop
 loop-less c =
     omega arith
 
--- src/fit.rt:43:5
 loop-again : tie.Need-loop-again Inv-loop μ-loop
 loop-again c =
     λ ps h.
     rw (c .wide .ensures .0, h .rows (c .before .before .before .before .before .before .loop .x)) (sym (climb-up ps _ _ _ (c .before .before .before .before .before .loop-test .taken) (pos-of-ne-zero (c .before .before .before .before .if1 .left)) (c .before .before .before .if2 .left)) ∙ c .before .before .before .before .before .before .loop .inv ps h)
 
--- src/fit.rt:38:1
 returns-4 : tie.Need-returns-4 Inv-loop μ-loop
 returns-4 c =
     λ ps h. let z : c .before .loop .n ≡ 0 = omega arith in climb-used ps _ _ _ z ∙ c .before .loop .inv ps h

@@ -6,12 +6,10 @@ use Rattle.shapes.proofs.fit.integer.Tie as tie
 use Rattle.shapes.proofs.fit.integer.Reads as reads
 use Rattle.shapes.proofs.fit.integer.Lts as lts
 
--- src/fit.rt:107:9
 returns : tie.Need-returns
 returns c =
     λ A e. integer-32 A (e ∙ c .if1 .taken)
 
--- src/fit.rt:103:1
 returns-2 : tie.Need-returns-2
 returns-2 c =
     λ A e. rw (← e) (integer-other A (λ x. c .if1 .left (sym e ∙ x)))

@@ -4,12 +4,10 @@ use Rattle.shapes.proofs.fit.kind_of.Tie as tie
 use Rattle.shapes.proofs.fit.kind_of.Reads as reads
 use Rattle.shapes.proofs.fit.kind_of.Lts as lts
 
--- src/fit.rt:32:9
 returns : tie.Need-returns
 returns c =
     λ A e. kind-low A _ e (c .if1 .taken)
 
--- src/fit.rt:28:1
 returns-2 : tie.Need-returns-2
 returns-2 c =
     λ A e. kind-high A _ e (c .if1 .left)

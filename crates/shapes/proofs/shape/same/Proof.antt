@@ -19,77 +19,62 @@ abbrev μ-loop : tie.MeasureT-loop
 μ-loop tops belows heights a b n₀ x₀ y₀ n x y =
     n
 
--- src/shape.rt:57:8
 element-copy-out-if1 : tie.Need-element-copy-out-if1 Inv-loop μ-loop
 element-copy-out-if1 c =
     search needs
 
--- src/shape.rt:57:22
 element-copy-out-if1-2 : tie.Need-element-copy-out-if1-2 Inv-loop μ-loop
 element-copy-out-if1-2 c =
     search needs
 
--- src/shape.rt:58:9
 returns : tie.Need-returns Inv-loop μ-loop
 returns c =
     λ k A B f v w. walk-heights (pool (c .before .before .before .args .tops .now) (c .before .before .before .args .belows .now) (c .before .before .before .args .heights .now) k) A B _ _ v w (c .if1 .taken)
 
--- src/shape.rt:60:17
 element-copy-out-n : tie.Need-element-copy-out-n Inv-loop μ-loop
 element-copy-out-n c =
     search needs
 
--- src/shape.rt:63:5
 loop-holds : tie.Need-loop-holds Inv-loop μ-loop
 loop-holds c =
     (search needs, search needs, λ k A B f v w. walk-start (pool (c .before .before .before .before .args .tops .now) (c .before .before .before .before .args .belows .now) (c .before .before .before .before .args .heights .now) k) A B _ _ _ v w refl (c .before .if1 .left))
 
--- src/shape.rt:65:13
 returns-2 : tie.Need-returns-2 Inv-loop μ-loop
 returns-2 c =
     λ k A B f v w. walk-meet (pool (c .before .before .before .before .before .before .before .args .tops .now) (c .before .before .before .before .before .before .before .args .belows .now) (c .before .before .before .before .before .before .before .args .heights .now) k) A B _ _ _ (c .before .before .loop .inv .2 k A B f v w) (c .if2 .taken)
 
--- src/shape.rt:67:12
 element-copy-out-if3 : tie.Need-element-copy-out-if3 Inv-loop μ-loop
 element-copy-out-if3 c =
     search needs
 
--- src/shape.rt:67:23
 element-copy-out-if3-2 : tie.Need-element-copy-out-if3-2 Inv-loop μ-loop
 element-copy-out-if3-2 c =
     search needs
 
--- src/shape.rt:68:13
 returns-3 : tie.Need-returns-3 Inv-loop μ-loop
 returns-3 c =
     λ k A B f v w. walk-differ (pool (c .before .before .before .before .before .before .before .before .before .before .args .tops .now) (c .before .before .before .before .before .before .before .before .before .before .args .belows .now) (c .before .before .before .before .before .before .before .before .before .before .args .heights .now) k) A B _ _ _ f (c .before .before .before .before .before .loop .inv .2 k A B f v w) (c .before .before .before .before .loop-test .taken) (c .if3 .taken)
 
--- src/shape.rt:70:9
 below-requires : tie.Need-below-requires Inv-loop μ-loop
 below-requires c κs =
     search needs
 
--- src/shape.rt:71:9
 below-requires-2 : tie.Need-below-requires-2 Inv-loop μ-loop
 below-requires-2 c κs =
     search needs
 
--- src/shape.rt:72:9
 sub-n : tie.Need-sub-n Inv-loop μ-loop
 sub-n c =
     omega arith
 
--- src/shape.rt:63:5
 loop-less : tie.Need-loop-less Inv-loop μ-loop
 loop-less c =
     omega arith
 
--- src/shape.rt:63:5
 loop-again : tie.Need-loop-again Inv-loop μ-loop
 loop-again c =
     (c .before .below .ensures .0, c .below2 .ensures .0, λ k A B f v w. walk-next (pool (c .before .before .before .before .before .before .before .before .before .before .before .before .args .tops .now) (c .before .before .before .before .before .before .before .before .before .before .before .before .args .belows .now) (c .before .before .before .before .before .before .before .before .before .before .before .before .args .heights .now) k) A B _ _ _ f (c .before .before .before .before .before .before .before .loop .inv .2 k A B f v w) (c .before .before .before .before .before .before .loop-test .taken) _ _ (c .before .before .if3 .left) (c .before .below .ensures .1) (c .below2 .ensures .1))
 
--- src/shape.rt:53:1
 returns-4 : tie.Need-returns-4 Inv-loop μ-loop
 returns-4 c =
     λ k A B f v w. walk-end (pool (c .before .before .before .before .before .before .args .tops .now) (c .before .before .before .before .before .before .args .belows .now) (c .before .before .before .before .before .before .args .heights .now) k) A B _ _ _ (c .before .loop .inv .2 k A B f v w) (omega arith)
