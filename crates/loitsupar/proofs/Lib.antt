@@ -1,3 +1,5 @@
 pub mod Bounds
 pub mod Refusals
 pub mod Answered
+pub mod Turned
+pub mod Safe

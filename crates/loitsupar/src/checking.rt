@@ -30,7 +30,7 @@ fn fault(number: u8, method: usize, offset: usize) -> Checked
 }
 
 // A refusal of loading, passed on.
-fn passed_on(a: Loads) -> Checked
+pub fn passed_on(a: Loads) -> Checked
     ensures { λ r. ⌜ r ≡ checked (some (faultIn 0 (refusalOf a))) ⌝ }
 {
     match a {
@@ -46,7 +46,7 @@ fn passed_on(a: Loads) -> Checked
 }
 
 // What the check of a loaded module says.
-fn told(v: Verdict) -> Checked
+pub fn told(v: Verdict) -> Checked
     ensures { λ r. ⌜ r ≡ checked (faultOf v) ⌝ }
 {
     match v {

@@ -1,2 +1,4 @@
 // The public functions over house tables and code; none has a `requires`.
 pub mod checking; // the check of a module, which loads it first
+pub mod running; // the run of a module, which loads it first
+pub mod turning; // the line of `turn` for a whole input
