@@ -1,0 +1,56 @@
+-- `arguments` is safe and ends: the buffer keeps its length.
+use borrow.Author.Needs.{needs}
+use mathlib.Core.Path.{_≡_}
+use Prim.Native.Nat.{_-_}
+use lib.ListN.{length}
+use Rattle.answers.proofs.frame.arguments.Statement.{statement}
+use Rattle.answers.proofs.frame.arguments.Tie as tie
+
+abbrev Inv-loop : tie.InvT-loop
+Inv-loop out₀ at types row args frame count next₀ i₀ out next i = length out ≡ length out₀
+
+abbrev μ-loop : tie.MeasureT-loop
+μ-loop out₀ at types row args frame count next₀ i₀ out next i = count - i
+
+loop-holds : tie.Need-loop-holds Inv-loop μ-loop
+loop-holds c = search needs
+
+type-at-requires : tie.Need-type-at-requires Inv-loop μ-loop
+type-at-requires c κs = search needs
+
+argument-at-requires : tie.Need-argument-at-requires Inv-loop μ-loop
+argument-at-requires c κs = search needs
+
+joined-requires : tie.Need-joined-requires Inv-loop μ-loop
+joined-requires c κs = search needs
+
+add-i : tie.Need-add-i Inv-loop μ-loop
+add-i c = search needs
+
+loop-less : tie.Need-loop-less Inv-loop μ-loop
+loop-less c = search needs
+
+loop-again : tie.Need-loop-again Inv-loop μ-loop
+loop-again c = search needs
+
+same-length : tie.Need-same-length Inv-loop μ-loop
+same-length c = search needs
+
+returns : tie.Need-returns Inv-loop μ-loop
+returns c = search needs
+
+pub arguments-spec : {M : Type 1} → statement M
+arguments-spec =
+    tie.close
+    (tie.spec
+    Inv-loop
+    μ-loop
+    loop-holds
+    type-at-requires
+    argument-at-requires
+    joined-requires
+    add-i
+    loop-less
+    loop-again
+    same-length
+    returns)

@@ -1,0 +1,58 @@
+// One cell as text. A reading at an index that is not there gives 0, so no function of this crate has a `requires`.
+use text::numbers::decimal;
+use text::numbers::hex;
+use text::numbers::put;
+use text::numbers::signed;
+
+// A byte as a row or a count.
+pub fn wide(b: u8) -> usize {
+    b as usize
+}
+
+// A reference: null, or its object's number.
+fn reference(out: &mut [u8], at: usize, bits: u64) -> usize {
+    if bits == 0 {
+        return put(out, at, b'n');
+    }
+    let next = put(out, at, b'o');
+    decimal(out, next, bits)
+}
+
+fn int32(out: &mut [u8], at: usize, bits: u64) -> usize {
+    let next = put(out, at, b'i');
+    signed(out, next, false, bits)
+}
+
+fn int64(out: &mut [u8], at: usize, bits: u64) -> usize {
+    let next = put(out, at, b'l');
+    signed(out, next, true, bits)
+}
+
+fn real(out: &mut [u8], at: usize, bits: u64) -> usize {
+    let next = put(out, at, b'f');
+    hex(out, next, 16, bits)
+}
+
+// A cell by its kind or its declared type: 1 int32, 2 int64, 3 F, any other a reference.
+pub fn cell(out: &mut [u8], at: usize, kind: u8, bits: u64) -> usize {
+    match kind {
+        1 => int32(out, at, bits),
+        2 => int64(out, at, bits),
+        3 => real(out, at, bits),
+        _ => reference(out, at, bits),
+    }
+}
+
+// A comma before every one but the first.
+pub fn comma(out: &mut [u8], at: usize, first: bool) -> usize {
+    if first {
+        return at;
+    }
+    put(out, at, b',')
+}
+
+// A cell of a row of cells that are joined by commas.
+pub fn joined(out: &mut [u8], at: usize, first: bool, kind: u8, bits: u64) -> usize {
+    let next = comma(out, at, first);
+    cell(out, next, kind, bits)
+}

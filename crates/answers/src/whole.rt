@@ -1,0 +1,66 @@
+// A State whole, as text: `frames=FRAMES statics=STATICS marks=MARKS heap=HEAP`.
+use crate::frame::frames;
+use crate::members::marks;
+use crate::members::objects;
+use crate::members::statics;
+use cells::Derived;
+use cells::State;
+use derived::derive;
+use tables::Loaded;
+use text::numbers::word;
+
+// The tables derived from a loaded module, of which the types and counts of objects' cells are wanted.
+fn derived_from(m: Loaded) -> Derived {
+    let parents = m.parents;
+    let field_owners = m.field_owners;
+    let flags = m.flags;
+    let field_types = m.field_types;
+    let slots = m.slots;
+    let owners = m.owners;
+    let roots = m.roots;
+    derive(
+        &parents,
+        m.classes,
+        &field_owners,
+        &flags,
+        &field_types,
+        &slots,
+        m.fields,
+        &owners,
+        &roots,
+        m.methods,
+    )
+}
+
+fn statics_part(out: &mut [u8], at: usize, m: Loaded, s: State) -> usize {
+    let flags = m.flags;
+    let types = m.field_types;
+    let slots = m.slots;
+    let bits = s.statics;
+    let next = word(out, at, b" statics=");
+    statics(out, next, &flags, &types, &slots, &bits)
+}
+
+fn marks_part(out: &mut [u8], at: usize, s: State) -> usize {
+    let started = s.marks;
+    let next = word(out, at, b" marks=");
+    marks(out, next, &started)
+}
+
+fn heap_part(out: &mut [u8], at: usize, d: Derived, s: State) -> usize {
+    let sizes = d.sizes;
+    let types = d.cells;
+    let classes = s.classes;
+    let heap = s.heap;
+    let next = word(out, at, b" heap=");
+    objects(out, next, &classes, &sizes, &types, &heap)
+}
+
+// The State of a run of a module, after what `out` holds up to `at`.
+pub fn state(out: &mut [u8], at: usize, m: Loaded, s: State) -> usize {
+    let a = word(out, at, b"frames=");
+    let b = frames(out, a, m, s);
+    let c = statics_part(out, b, m, s);
+    let d = marks_part(out, c, s);
+    heap_part(out, d, derived_from(m), s)
+}
