@@ -27,6 +27,7 @@ use Rattle.runner.specs.declared.Ran.{Ran}
 use Rattle.loitsupar.proofs.Bounds.{bounded}
 use Rattle.loitsupar.proofs.Refusals.{numbered}
 
+-- a refusal of loading is the refusal of the run
 pub passed-on : {a b : Loads} {r : Ran} → a ≡ b → (r .refused ≡ true) × Ran.Refuses (refusalOf b) (r .ended) → Ran.Answers (bad (refusalOf a)) r
 unfolding Ran.Answers
 passed-on e h = rw e h

@@ -3,3 +3,4 @@ pub mod Refusals
 pub mod Answered
 pub mod Turned
 pub mod Safe
+pub mod Laying

@@ -2,3 +2,4 @@
 pub mod checking; // the check of a module, which loads it first
 pub mod running; // the run of a module, which loads it first
 pub mod turning; // the line of `turn` for a whole input
+pub mod hosting; // the same for a host program in C or Rust
