@@ -1,4 +1,3 @@
 -- Laws that the proofs of the groups cite.
 pub mod Tokens
-pub mod Groups
 pub mod Returned

@@ -20,7 +20,7 @@ use Rattle.frames.specs.Lent.{Returns}
 use Rattle.opcodes.specs.Tries.{actsC}
 use Rattle.opcodes.proofs.Acting.{acts-bare}
 use Rattle.tokened.specs.Opcodes.{Comes}
-use Rattle.tokened.proofs.Groups.{apart}
+use Rattle.opcodes.proofs.Trying.{differ}
 
 form-ret : formOf instructions 0x2A ≡ some (bare (plain ret))
 unfolding formOf instructions loads operators objects branches _is_ op un const pick
@@ -34,9 +34,9 @@ module _ (L : Loaded) (D : Derived) (part : List ℕ) (c : Cells) (inside : c .r
   -- ret's own step
   pub returned-by : {n b : ℕ} {x : Gone} {after : Cells} → Returns n (x .ending) after c (retC L c)
       → Comes n b (record { mine = true; over = eqb (x .ending) 1; gone = x }) after c (actsC L D part c)
-  returned-by m = record { does = λ _. record { says = m .says ∙ sym acts-ret; kept = m .kept }; ends = refl; leaves = λ z. absurd (apart refl z) }
+  returned-by m = record { does = λ _. record { says = m .says ∙ sym acts-ret; kept = m .kept }; ends = refl; leaves = λ z. absurd (differ refl z) }
 
 -- the opcode is of another group, and nothing changes
 pub elsewhere : {n b : ℕ} {g : Regs} {before : Cells} {said : Answer ℕ Went} → (b ≡ 0x2A → ⊥)
     → Comes n b (record { mine = false; over = false; gone = endsOf g 41 }) before before said
-elsewhere o = record { does = λ z. absurd (apart z refl); ends = refl; leaves = λ _. ((tt, o), refl) }
+elsewhere o = record { does = λ z. absurd (differ z refl); ends = refl; leaves = λ _. ((tt, o), refl) }

@@ -7,7 +7,6 @@ use mathlib.Core.Option.{some}
 use mathlib.Core.List.{List}
 use lib.ListN.{length, getD, drop}
 use lib.Dec.{leb}
-use borrow.Author.Tests.{not-true, not-false, leb-true, leb-false}
 use Rattle.model.specs.Answer.{pick}
 use Rattle.model.specs.Loading.{little}
 use Rattle.model.specs.Code.{Ins, call, callvirt, newobj, castclass, isinst, ldfld, stfld, ldsfld, stsfld, long, _is_, op, un, const, branches, loads, operators, objects, instructions, formOf}
@@ -19,6 +18,7 @@ use Rattle.code.proofs.Forms.{size}
 use Rattle.plain.specs.Steps.{Meets, missed}
 use Rattle.plain.proofs.Answers.{stops, instead}
 use Rattle.opcodes.specs.Tries.{actsC}
+use Rattle.opcodes.proofs.Sizes.{there, cut}
 use Rattle.opcodes.proofs.Acting.{acts-cut, acts-long}
 
 -- ---- The opcodes that a token follows
@@ -67,23 +67,16 @@ is-cast false = record { few = omega arith; form = refl }
 
 -- ---- The instruction is there whole, or it can't be decoded
 
-module _ (at n : ℕ) {w : Bool} (h : w ≡ leb (at + 5) n) where
-  pub five : not w ≡ false → at + 5 ≤ n
-  five l = leb-true (at + 5) n (sym h ∙ not-false _ l)
-
-  pub lacking : not w ≡ true → n < at + 5
-  lacking t = leb-false (at + 5) n (sym h ∙ not-true _ t)
-
 module _ (L : Loaded) (D : Derived) (part : List ℕ) (c : Cells) {b : ℕ} {f : ℕ → Ins} {w : Bool} (k : Token b f) (inside : c .regs .at < length part) (e : getD part (c .regs .at) 0 ≡ b) (h : w ≡ leb (c .regs .at + 5) (length part)) where
   pub no-token : not w ≡ true → Meets 41 c c (actsC L D part c)
   unfolding size
-  no-token t = stops refl (acts-cut L D part c inside (rw e (k .few)) (long f) (ap (formOf instructions) e ∙ k .form) (lacking (c .regs .at) (length part) h t))
+  no-token t = stops refl (acts-cut L D part c inside (rw e (k .few)) (long f) (ap (formOf instructions) e ∙ k .form) (cut h t))
 
   -- t is the token
   module _ (l : not w ≡ false) {t : ℕ} (four : t ≡ little 4 (drop (suc (c .regs .at)) part)) where
     acts-on : actsC L D part c ≡ actC L D c (f t) (c .regs .at + 5)
     acts-on =
-        acts-long L D part c inside (rw e (k .few)) f (ap (formOf instructions) e ∙ k .form) (five (c .regs .at) (length part) h l)
+        acts-long L D part c inside (rw e (k .few)) f (ap (formOf instructions) e ∙ k .form) (there h l)
         ∙ ap (λ (x : ℕ). actC L D c (f x) (c .regs .at + 5)) (sym four)
 
     pub by-token : {end : ℕ} {after : Cells} → Meets end after c (actC L D c (f t) (c .regs .at + 5)) → Meets end after c (actsC L D part c)

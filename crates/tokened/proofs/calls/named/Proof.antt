@@ -1,6 +1,7 @@
 use borrow.Author.Needs.{needs}
 use Rattle.cells.specs.Cells.{actC}
-use Rattle.tokened.proofs.Tokens.{is-call, five, no-token, by-token}
+use Rattle.opcodes.proofs.Sizes.{there}
+use Rattle.tokened.proofs.Tokens.{is-call, no-token, by-token}
 use Rattle.tokened.proofs.calls.named.Statement.{statement}
 use Rattle.tokened.proofs.calls.named.Tie as tie
 
@@ -15,7 +16,7 @@ returns c =
     rw (c .ends .ensures) (c .before .before .before .before .pre .0, λ L D s calls starts returned marked fits placed e. no-token L D _ _ is-call (c .before .before .before .before .pre .1 .0 .0) e (c .before .before .whole .ensures) (c .before .if1 .taken))
 
 four-after-requires : tie.Need-four-after-requires
-four-after-requires c κs = five _ _ (c .before .whole .ensures) (c .if1 .left)
+four-after-requires c κs = there (c .before .whole .ensures) (c .if1 .left)
 
 call-requires : tie.Need-call-requires
 call-requires c κs =

@@ -1,5 +1,6 @@
 use borrow.Author.Needs.{needs}
-use Rattle.tokened.proofs.Tokens.{is-cast, five, no-token, by-token, cast-by}
+use Rattle.opcodes.proofs.Sizes.{there}
+use Rattle.tokened.proofs.Tokens.{is-cast, no-token, by-token, cast-by}
 use Rattle.tokened.proofs.casts.cast_to.Statement.{statement}
 use Rattle.tokened.proofs.casts.cast_to.Tie as tie
 
@@ -14,7 +15,7 @@ returns c =
     rw (c .ends .ensures) (c .before .before .before .before .pre .0, λ L D s n h p e. no-token L D _ _ (is-cast _) (c .before .before .before .before .pre .1 .0) e (c .before .before .whole .ensures) (c .before .if1 .taken))
 
 four-after-requires : tie.Need-four-after-requires
-four-after-requires c κs = five _ _ (c .before .whole .ensures) (c .if1 .left)
+four-after-requires c κs = there (c .before .whole .ensures) (c .if1 .left)
 
 add-cast : tie.Need-add-cast
 add-cast c = search needs
