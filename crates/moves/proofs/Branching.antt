@@ -24,8 +24,8 @@ use Rattle.plain.proofs.Answers.{stops}
 use Rattle.opcodes.specs.declared.Tried.{Tried}
 use Rattle.opcodes.specs.Tries.{actsC, Reads, Tries, Others}
 use Rattle.opcodes.proofs.Acting.{acts-cut, acts-near, acts-far}
-use Rattle.opcodes.proofs.Trying.{taken, left}
-use Rattle.moves.proofs.Opcodes.{differ, a-byte, form}
+use Rattle.opcodes.proofs.Trying.{differ, taken, left}
+use Rattle.moves.proofs.Opcodes.{a-byte, form}
 
 -- ---- Where a distance leads
 

@@ -13,77 +13,19 @@ use plain::locals::stloc;
 use plain::stack::ends;
 ghost use mathlib.Core.Path.{_≡_};
 ghost use mathlib.Core.Bool.{true, false};
-ghost use Prim.Native.Nat.{suc, _≤_, _<_};
-ghost use lib.ListN.{length, getD, drop};
-ghost use Rattle.model.specs.Code.{Form, formOf, instructions};
+ghost use Prim.Native.Nat.{_≤_, _<_};
+ghost use lib.ListN.{length, getD};
 ghost use Rattle.tables.specs.declared.Loaded.{Loaded};
 ghost use Rattle.cells.specs.declared.Cells.{Cells};
 ghost use Rattle.cells.specs.declared.Derived.{Derived};
-ghost use lib.Dec.{ltb};
-ghost use Rattle.model.specs.Answer.{pick};
-ghost use Rattle.model.specs.Loading.{little};
-ghost use Rattle.model.specs.Code.{ldarg, starg, ldloc, stloc};
 ghost use Rattle.cells.specs.Cells.{withArgs, withLocs};
 ghost use Rattle.plain.specs.Steps.{Ok, Few, Meets, HoldsFits, Placed, onStack, onClasses};
 ghost use Rattle.opcodes.specs.Tries.{actsC, Reads, Tries, variableOps};
-ghost use Rattle.moves.specs.Variables.{Numbered, Names};
 
-// What an opcode does to an argument or a local, and the number of it: 4 says that the byte after the opcode has the number.
-pub enum Variable {
-    Ldarg(usize),
-    Starg(usize),
-    Ldloc(usize),
-    Stloc(usize),
-    Another,
-}
-
-pub fn variable_of(op: u8) -> Variable
-    ensures { λ r. ⌜ Names r op ⌝ }
-{
-    match op {
-        0x02 => Variable::Ldarg(0),
-        0x03 => Variable::Ldarg(1),
-        0x04 => Variable::Ldarg(2),
-        0x05 => Variable::Ldarg(3),
-        0x06 => Variable::Ldloc(0),
-        0x07 => Variable::Ldloc(1),
-        0x08 => Variable::Ldloc(2),
-        0x09 => Variable::Ldloc(3),
-        0x0A => Variable::Stloc(0),
-        0x0B => Variable::Stloc(1),
-        0x0C => Variable::Stloc(2),
-        0x0D => Variable::Stloc(3),
-        0x0E => Variable::Ldarg(4),
-        0x10 => Variable::Starg(4),
-        0x11 => Variable::Ldloc(4),
-        0x13 => Variable::Stloc(4),
-        _ => Variable::Another,
-    }
-}
-
-// How long the instruction is.
-fn width(i: usize) -> usize
-    ensures { λ r. ⌜ r ≡ pick (ltb i 4) 1 2 ⌝ ∗ ⌜ r ≤ 2 ⌝ }
-{
-    if i < 4 { 1 } else { 2 }
-}
-
-// The number of the argument or local.
-fn index(part: &[u8], at: usize, i: usize) -> usize
-    requires { ⌜ (at < length (now part)) × (length (now part) ≤ 1024) ⌝ ∗ ⌜ (4 ≤ i → suc at < length (now part)) ⌝ }
-    ensures { λ r. ⌜ r ≡ pick (ltb i 4) i (little 1 (drop (suc at) (now (part .entry)))) ⌝ }
-{
-    if i < 4 {
-        return i;
-    }
-    byte_after(part, at)
-}
-
-// ldarg in all its forms.
+// ldarg.s: the byte after the opcode has the number.
 fn load_argument(
     g: Regs,
     part: &[u8],
-    i: usize,
     kinds: &mut [u8; 1024],
     bits: &mut [u64; 1024],
     stacks: &[u8; 129],
@@ -92,10 +34,9 @@ fn load_argument(
     args: &[u64; 256],
 ) -> Gone
     requires { ⌜ Ok g ⌝ ∗ ⌜ (g .at < length (now part)) × (length (now part) ≤ 1024) ⌝ ∗ ⌜ Few 32 (now stacks) ⌝ ∗ ⌜ Few 8 (now arguments) ⌝ }
-    ensures { λ r. ⌜ Ok (r .regs) ⌝ ∗ ⌜ ((L : Loaded) (D : Derived) (c : Cells) → L .stacks ≡ now (stacks .entry) → L .types ≡ now (types .entry) → L .arguments ≡ now (arguments .entry) → Numbered ldarg i (getD (now (part .entry)) (g .at) 0) → getD (now (part .entry)) (g .at) 0 < 256 → Meets (r .ending) (withArgs (onStack c (r .regs) (now (kinds .exit)) (now (bits .exit))) (now (args .entry))) (withArgs (onStack c g (now (kinds .entry)) (now (bits .entry))) (now (args .entry))) (actsC L D (now (part .entry)) (withArgs (onStack c g (now (kinds .entry)) (now (bits .entry))) (now (args .entry))))) ⌝ }
+    ensures { λ r. ⌜ Ok (r .regs) ⌝ ∗ ⌜ ((L : Loaded) (D : Derived) (c : Cells) → L .stacks ≡ now (stacks .entry) → L .types ≡ now (types .entry) → L .arguments ≡ now (arguments .entry) → getD (now (part .entry)) (g .at) 0 ≡ 0x0E → Meets (r .ending) (withArgs (onStack c (r .regs) (now (kinds .exit)) (now (bits .exit))) (now (args .entry))) (withArgs (onStack c g (now (kinds .entry)) (now (bits .entry))) (now (args .entry))) (actsC L D (now (part .entry)) (withArgs (onStack c g (now (kinds .entry)) (now (bits .entry))) (now (args .entry))))) ⌝ }
 {
-    let size = width(i);
-    if !whole(part, g.at, size) {
+    if !whole(part, g.at, 2) {
         return ends(g, 41);
     }
     ldarg(
@@ -106,16 +47,15 @@ fn load_argument(
         types,
         arguments,
         args,
-        index(part, g.at, i),
-        g.at + size,
+        byte_after(part, g.at),
+        g.at + 2,
     )
 }
 
-// ldloc in all its forms.
+// ldloc.s: the byte after the opcode has the number.
 fn load_local(
     g: Regs,
     part: &[u8],
-    i: usize,
     kinds: &mut [u8; 1024],
     bits: &mut [u64; 1024],
     stacks: &[u8; 129],
@@ -124,10 +64,9 @@ fn load_local(
     locs: &[u64; 512],
 ) -> Gone
     requires { ⌜ Ok g ⌝ ∗ ⌜ (g .at < length (now part)) × (length (now part) ≤ 1024) ⌝ ∗ ⌜ Few 32 (now stacks) ⌝ ∗ ⌜ Few 16 (now locals) ⌝ }
-    ensures { λ r. ⌜ Ok (r .regs) ⌝ ∗ ⌜ ((L : Loaded) (D : Derived) (c : Cells) → L .stacks ≡ now (stacks .entry) → L .types ≡ now (types .entry) → L .locals ≡ now (locals .entry) → Numbered ldloc i (getD (now (part .entry)) (g .at) 0) → getD (now (part .entry)) (g .at) 0 < 256 → Meets (r .ending) (withLocs (onStack c (r .regs) (now (kinds .exit)) (now (bits .exit))) (now (locs .entry))) (withLocs (onStack c g (now (kinds .entry)) (now (bits .entry))) (now (locs .entry))) (actsC L D (now (part .entry)) (withLocs (onStack c g (now (kinds .entry)) (now (bits .entry))) (now (locs .entry))))) ⌝ }
+    ensures { λ r. ⌜ Ok (r .regs) ⌝ ∗ ⌜ ((L : Loaded) (D : Derived) (c : Cells) → L .stacks ≡ now (stacks .entry) → L .types ≡ now (types .entry) → L .locals ≡ now (locals .entry) → getD (now (part .entry)) (g .at) 0 ≡ 0x11 → Meets (r .ending) (withLocs (onStack c (r .regs) (now (kinds .exit)) (now (bits .exit))) (now (locs .entry))) (withLocs (onStack c g (now (kinds .entry)) (now (bits .entry))) (now (locs .entry))) (actsC L D (now (part .entry)) (withLocs (onStack c g (now (kinds .entry)) (now (bits .entry))) (now (locs .entry))))) ⌝ }
 {
-    let size = width(i);
-    if !whole(part, g.at, size) {
+    if !whole(part, g.at, 2) {
         return ends(g, 41);
     }
     ldloc(
@@ -138,16 +77,15 @@ fn load_local(
         types,
         locals,
         locs,
-        index(part, g.at, i),
-        g.at + size,
+        byte_after(part, g.at),
+        g.at + 2,
     )
 }
 
-// starg.
+// starg.s: the byte after the opcode has the number.
 fn store_argument(
     g: Regs,
     part: &[u8],
-    i: usize,
     kinds: &[u8; 1024],
     bits: &[u64; 1024],
     classes: &[u8; 256],
@@ -157,10 +95,9 @@ fn store_argument(
     args: &mut [u64; 256],
 ) -> Gone
     requires { ⌜ Ok g ⌝ ∗ ⌜ (g .at < length (now part)) × (length (now part) ≤ 1024) ⌝ ∗ ⌜ Few 8 (now arguments) ⌝ }
-    ensures { λ r. ⌜ Ok (r .regs) ⌝ ∗ ⌜ ((L : Loaded) (D : Derived) (c : Cells) → L .types ≡ now (types .entry) → L .arguments ≡ now (arguments .entry) → Few 3 (now (kinds .entry)) → HoldsFits (L .parents) (now (table .entry)) → Placed (now (classes .entry)) → Numbered starg i (getD (now (part .entry)) (g .at) 0) → getD (now (part .entry)) (g .at) 0 < 256 → Meets (r .ending) (withArgs (onClasses c (r .regs) (now (kinds .entry)) (now (bits .entry)) (now (classes .entry))) (now (args .exit))) (withArgs (onClasses c g (now (kinds .entry)) (now (bits .entry)) (now (classes .entry))) (now (args .entry))) (actsC L D (now (part .entry)) (withArgs (onClasses c g (now (kinds .entry)) (now (bits .entry)) (now (classes .entry))) (now (args .entry))))) ⌝ }
+    ensures { λ r. ⌜ Ok (r .regs) ⌝ ∗ ⌜ ((L : Loaded) (D : Derived) (c : Cells) → L .types ≡ now (types .entry) → L .arguments ≡ now (arguments .entry) → Few 3 (now (kinds .entry)) → HoldsFits (L .parents) (now (table .entry)) → Placed (now (classes .entry)) → getD (now (part .entry)) (g .at) 0 ≡ 0x10 → Meets (r .ending) (withArgs (onClasses c (r .regs) (now (kinds .entry)) (now (bits .entry)) (now (classes .entry))) (now (args .exit))) (withArgs (onClasses c g (now (kinds .entry)) (now (bits .entry)) (now (classes .entry))) (now (args .entry))) (actsC L D (now (part .entry)) (withArgs (onClasses c g (now (kinds .entry)) (now (bits .entry)) (now (classes .entry))) (now (args .entry))))) ⌝ }
 {
-    let size = width(i);
-    if !whole(part, g.at, size) {
+    if !whole(part, g.at, 2) {
         return ends(g, 41);
     }
     starg(
@@ -172,16 +109,15 @@ fn store_argument(
         types,
         arguments,
         args,
-        index(part, g.at, i),
-        g.at + size,
+        byte_after(part, g.at),
+        g.at + 2,
     )
 }
 
-// stloc in all its forms.
+// stloc.s: the byte after the opcode has the number.
 fn store_local(
     g: Regs,
     part: &[u8],
-    i: usize,
     kinds: &[u8; 1024],
     bits: &[u64; 1024],
     classes: &[u8; 256],
@@ -191,10 +127,9 @@ fn store_local(
     locs: &mut [u64; 512],
 ) -> Gone
     requires { ⌜ Ok g ⌝ ∗ ⌜ (g .at < length (now part)) × (length (now part) ≤ 1024) ⌝ ∗ ⌜ Few 16 (now locals) ⌝ }
-    ensures { λ r. ⌜ Ok (r .regs) ⌝ ∗ ⌜ ((L : Loaded) (D : Derived) (c : Cells) → L .types ≡ now (types .entry) → L .locals ≡ now (locals .entry) → Few 3 (now (kinds .entry)) → HoldsFits (L .parents) (now (table .entry)) → Placed (now (classes .entry)) → Numbered stloc i (getD (now (part .entry)) (g .at) 0) → getD (now (part .entry)) (g .at) 0 < 256 → Meets (r .ending) (withLocs (onClasses c (r .regs) (now (kinds .entry)) (now (bits .entry)) (now (classes .entry))) (now (locs .exit))) (withLocs (onClasses c g (now (kinds .entry)) (now (bits .entry)) (now (classes .entry))) (now (locs .entry))) (actsC L D (now (part .entry)) (withLocs (onClasses c g (now (kinds .entry)) (now (bits .entry)) (now (classes .entry))) (now (locs .entry))))) ⌝ }
+    ensures { λ r. ⌜ Ok (r .regs) ⌝ ∗ ⌜ ((L : Loaded) (D : Derived) (c : Cells) → L .types ≡ now (types .entry) → L .locals ≡ now (locals .entry) → Few 3 (now (kinds .entry)) → HoldsFits (L .parents) (now (table .entry)) → Placed (now (classes .entry)) → getD (now (part .entry)) (g .at) 0 ≡ 0x13 → Meets (r .ending) (withLocs (onClasses c (r .regs) (now (kinds .entry)) (now (bits .entry)) (now (classes .entry))) (now (locs .exit))) (withLocs (onClasses c g (now (kinds .entry)) (now (bits .entry)) (now (classes .entry))) (now (locs .entry))) (actsC L D (now (part .entry)) (withLocs (onClasses c g (now (kinds .entry)) (now (bits .entry)) (now (classes .entry))) (now (locs .entry))))) ⌝ }
 {
-    let size = width(i);
-    if !whole(part, g.at, size) {
+    if !whole(part, g.at, 2) {
         return ends(g, 41);
     }
     stloc(
@@ -206,8 +141,8 @@ fn store_local(
         types,
         locals,
         locs,
-        index(part, g.at, i),
-        g.at + size,
+        byte_after(part, g.at),
+        g.at + 2,
     )
 }
 
@@ -234,38 +169,67 @@ pub fn variables(
     if t.mine {
         return t;
     }
-    match variable_of(op) {
-        Variable::Ldarg(i) => {
-            mine(load_argument(g, part, i, kinds, bits, stacks, types, arguments, args))
-        }
-        Variable::Starg(i) => {
-            mine(store_argument(
-                g,
-                part,
-                i,
-                kinds,
-                bits,
-                classes,
-                table,
-                types,
-                arguments,
-                args,
-            ))
-        }
-        Variable::Ldloc(i) => mine(load_local(
+    match op {
+        0x02 => mine(ldarg(g, kinds, bits, stacks, types, arguments, args, 0, g.at + 1)),
+        0x03 => mine(ldarg(g, kinds, bits, stacks, types, arguments, args, 1, g.at + 1)),
+        0x04 => mine(ldarg(g, kinds, bits, stacks, types, arguments, args, 2, g.at + 1)),
+        0x05 => mine(ldarg(g, kinds, bits, stacks, types, arguments, args, 3, g.at + 1)),
+        0x06 => mine(ldloc(g, kinds, bits, stacks, types, locals, locs, 0, g.at + 1)),
+        0x07 => mine(ldloc(g, kinds, bits, stacks, types, locals, locs, 1, g.at + 1)),
+        0x08 => mine(ldloc(g, kinds, bits, stacks, types, locals, locs, 2, g.at + 1)),
+        0x09 => mine(ldloc(g, kinds, bits, stacks, types, locals, locs, 3, g.at + 1)),
+        0x0A => mine(stloc(
             g,
-            part,
-            i,
             kinds,
             bits,
-            stacks,
+            classes,
+            table,
             types,
             locals,
             locs,
+            0,
+            g.at + 1,
         )),
-        Variable::Stloc(i) => {
-            mine(store_local(g, part, i, kinds, bits, classes, table, types, locals, locs))
-        }
-        Variable::Another => other(g),
+        0x0B => mine(stloc(
+            g,
+            kinds,
+            bits,
+            classes,
+            table,
+            types,
+            locals,
+            locs,
+            1,
+            g.at + 1,
+        )),
+        0x0C => mine(stloc(
+            g,
+            kinds,
+            bits,
+            classes,
+            table,
+            types,
+            locals,
+            locs,
+            2,
+            g.at + 1,
+        )),
+        0x0D => mine(stloc(
+            g,
+            kinds,
+            bits,
+            classes,
+            table,
+            types,
+            locals,
+            locs,
+            3,
+            g.at + 1,
+        )),
+        0x0E => mine(load_argument(g, part, kinds, bits, stacks, types, arguments, args)),
+        0x10 => mine(store_argument(g, part, kinds, bits, classes, table, types, arguments, args)),
+        0x11 => mine(load_local(g, part, kinds, bits, stacks, types, locals, locs)),
+        0x13 => mine(store_local(g, part, kinds, bits, classes, table, types, locals, locs)),
+        _ => other(g),
     }
 }

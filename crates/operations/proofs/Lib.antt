@@ -1,5 +1,4 @@
 pub mod Signed
-pub mod Cut
 pub mod Arms
 pub mod ByForm
 pub mod Pushes

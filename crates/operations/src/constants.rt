@@ -18,7 +18,6 @@ ghost use mathlib.Core.Path.{_≡_};
 ghost use mathlib.Core.Bool.{true, false};
 ghost use Prim.Native.Nat.{_≤_, _<_};
 ghost use lib.ListN.{length, getD};
-ghost use Rattle.model.specs.Code.{Form, formOf, instructions};
 ghost use Rattle.tables.specs.declared.Loaded.{Loaded};
 ghost use Rattle.cells.specs.declared.Cells.{Cells};
 ghost use Rattle.cells.specs.declared.Derived.{Derived};
@@ -147,26 +146,25 @@ pub fn constants(
     if t.mine {
         return t;
     }
-    let next = g.at + 1;
     match op {
-        0x00 => mine(onward(g, next)),
-        0x14 => mine(push(g, kinds, bits, stacks, 0, 0, next)),
-        0x15 => mine(push(g, kinds, bits, stacks, 1, 0xFFFFFFFF, next)),
-        0x16 => mine(push(g, kinds, bits, stacks, 1, 0, next)),
-        0x17 => mine(push(g, kinds, bits, stacks, 1, 1, next)),
-        0x18 => mine(push(g, kinds, bits, stacks, 1, 2, next)),
-        0x19 => mine(push(g, kinds, bits, stacks, 1, 3, next)),
-        0x1A => mine(push(g, kinds, bits, stacks, 1, 4, next)),
-        0x1B => mine(push(g, kinds, bits, stacks, 1, 5, next)),
-        0x1C => mine(push(g, kinds, bits, stacks, 1, 6, next)),
-        0x1D => mine(push(g, kinds, bits, stacks, 1, 7, next)),
-        0x1E => mine(push(g, kinds, bits, stacks, 1, 8, next)),
+        0x00 => mine(onward(g, g.at + 1)),
+        0x14 => mine(push(g, kinds, bits, stacks, 0, 0, g.at + 1)),
+        0x15 => mine(push(g, kinds, bits, stacks, 1, 0xFFFFFFFF, g.at + 1)),
+        0x16 => mine(push(g, kinds, bits, stacks, 1, 0, g.at + 1)),
+        0x17 => mine(push(g, kinds, bits, stacks, 1, 1, g.at + 1)),
+        0x18 => mine(push(g, kinds, bits, stacks, 1, 2, g.at + 1)),
+        0x19 => mine(push(g, kinds, bits, stacks, 1, 3, g.at + 1)),
+        0x1A => mine(push(g, kinds, bits, stacks, 1, 4, g.at + 1)),
+        0x1B => mine(push(g, kinds, bits, stacks, 1, 5, g.at + 1)),
+        0x1C => mine(push(g, kinds, bits, stacks, 1, 6, g.at + 1)),
+        0x1D => mine(push(g, kinds, bits, stacks, 1, 7, g.at + 1)),
+        0x1E => mine(push(g, kinds, bits, stacks, 1, 8, g.at + 1)),
         0x1F => mine(ldc_i4_s(g, part, kinds, bits, stacks)),
         0x20 => mine(ldc_i4(g, part, kinds, bits, stacks)),
         0x21 => mine(ldc_i8(g, part, kinds, bits, stacks)),
         0x23 => mine(ldc_r8(g, part, kinds, bits, stacks)),
-        0x25 => mine(dup(g, kinds, bits, stacks, next)),
-        0x26 => mine(pop(g, next)),
+        0x25 => mine(dup(g, kinds, bits, stacks, g.at + 1)),
+        0x26 => mine(pop(g, g.at + 1)),
         _ => other(g),
     }
 }

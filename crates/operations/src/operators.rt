@@ -13,7 +13,6 @@ ghost use mathlib.Core.Path.{_≡_};
 ghost use mathlib.Core.Bool.{true, false};
 ghost use Prim.Native.Nat.{_≤_, _<_};
 ghost use lib.ListN.{length, getD};
-ghost use Rattle.model.specs.Code.{Form, formOf, instructions};
 ghost use Rattle.tables.specs.declared.Loaded.{Loaded};
 ghost use Rattle.cells.specs.declared.Cells.{Cells};
 ghost use Rattle.cells.specs.declared.Derived.{Derived};
@@ -54,29 +53,28 @@ pub fn operators(
     if t.mine {
         return t;
     }
-    let next = g.at + 1;
     match op {
-        0x58 => mine(binary(g, kinds, bits, 0, next)),
-        0x59 => mine(binary(g, kinds, bits, 1, next)),
-        0x5A => mine(binary(g, kinds, bits, 2, next)),
-        0x5B => mine(binary(g, kinds, bits, 3, next)),
-        0x5C => mine(binary(g, kinds, bits, 5, next)),
-        0x5D => mine(binary(g, kinds, bits, 4, next)),
-        0x5E => mine(binary(g, kinds, bits, 6, next)),
-        0x5F => mine(binary(g, kinds, bits, 7, next)),
-        0x60 => mine(binary(g, kinds, bits, 8, next)),
-        0x61 => mine(binary(g, kinds, bits, 9, next)),
-        0x62 => mine(binary(g, kinds, bits, 13, next)),
-        0x63 => mine(binary(g, kinds, bits, 14, next)),
-        0x64 => mine(binary(g, kinds, bits, 15, next)),
-        0xD6 => mine(binary(g, kinds, bits, 10, next)),
-        0xD8 => mine(binary(g, kinds, bits, 11, next)),
-        0xDA => mine(binary(g, kinds, bits, 12, next)),
-        0x65 => mine(unary(g, kinds, bits, 0, next)),
-        0x66 => mine(unary(g, kinds, bits, 1, next)),
-        0x69 => mine(unary(g, kinds, bits, 2, next)),
-        0x6A => mine(unary(g, kinds, bits, 3, next)),
-        0x6C => mine(unary(g, kinds, bits, 4, next)),
+        0x58 => mine(binary(g, kinds, bits, 0, g.at + 1)),
+        0x59 => mine(binary(g, kinds, bits, 1, g.at + 1)),
+        0x5A => mine(binary(g, kinds, bits, 2, g.at + 1)),
+        0x5B => mine(binary(g, kinds, bits, 3, g.at + 1)),
+        0x5C => mine(binary(g, kinds, bits, 5, g.at + 1)),
+        0x5D => mine(binary(g, kinds, bits, 4, g.at + 1)),
+        0x5E => mine(binary(g, kinds, bits, 6, g.at + 1)),
+        0x5F => mine(binary(g, kinds, bits, 7, g.at + 1)),
+        0x60 => mine(binary(g, kinds, bits, 8, g.at + 1)),
+        0x61 => mine(binary(g, kinds, bits, 9, g.at + 1)),
+        0x62 => mine(binary(g, kinds, bits, 13, g.at + 1)),
+        0x63 => mine(binary(g, kinds, bits, 14, g.at + 1)),
+        0x64 => mine(binary(g, kinds, bits, 15, g.at + 1)),
+        0xD6 => mine(binary(g, kinds, bits, 10, g.at + 1)),
+        0xD8 => mine(binary(g, kinds, bits, 11, g.at + 1)),
+        0xDA => mine(binary(g, kinds, bits, 12, g.at + 1)),
+        0x65 => mine(unary(g, kinds, bits, 0, g.at + 1)),
+        0x66 => mine(unary(g, kinds, bits, 1, g.at + 1)),
+        0x69 => mine(unary(g, kinds, bits, 2, g.at + 1)),
+        0x6A => mine(unary(g, kinds, bits, 3, g.at + 1)),
+        0x6C => mine(unary(g, kinds, bits, 4, g.at + 1)),
         0xFE => mine(compared(g, part, kinds, bits)),
         _ => other(g),
     }

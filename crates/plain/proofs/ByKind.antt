@@ -1,5 +1,5 @@
 -- What the operators give, by the kinds of their operands.
-use Prim.Native.Nat.{ℕ, zero, suc, _-_, _^_, _≤_, _<_}
+use Prim.Native.Nat.{ℕ, zero, suc, _+_, _-_, _*_, _^_, _≤_, _<_}
 use mathlib.Core.Path.{_≡_, refl, sym, ap, _∙_}
 use mathlib.Core.Bool.{Bool, true, false}
 use mathlib.Core.Option.{Option, none, some}
@@ -11,7 +11,7 @@ use lib.Ieee as Ieee
 use lib.Ieee.{binary64}
 use mir.Syntax.{Width, w32, w64}
 use mir.Val.{bits, toZ, ofZ}
-use borrow.Author.Tests.{eq-eqb, ne-eqb}
+use borrow.Author.Tests.{eqb-true, ne-eqb}
 use Rattle.model.specs.Answer.{Answer, bad, ok, _>>=_, need, pick, onlyIf, mapOption}
 use Rattle.model.specs.Tables.{int32}
 use Rattle.model.specs.Code.{Number, Whole, Shift, Relation, number, whole, shift, compare, Unary, neg, not-bits, conv-i4, conv-i8, conv-r8}
@@ -37,19 +37,28 @@ same-kind k l h i = simp (number-of k h, number-of l i)
 low-all : {a : ℕ} → a < 2 ^ 64 → low w64 a ≡ a
 low-all h = mod-eq-of-lt h
 
--- a kind of integers
-pub record Whole-kind (k : ℕ) : Type 0 where
-  pub some-kind : k ≡ 0 → ⊥
-  pub no-real : k ≡ 3 → ⊥
-  pub few : k ≤ 3
+-- a pair of bytes has one sum
+pair : (i j : ℕ) {k l : ℕ} → k < 256 → i < 256 → k + l * 256 ≡ i + j * 256 → (k ≡ i) × (l ≡ j)
+pair i j hk hi e = (omega arith, omega arith)
 
-shown-low : (k : ℕ) {b : ℕ} → Whole-kind k → b < 2 ^ 64 → shown k b ≡ low (widthOf (eqb k 2)) b
+-- the kinds of integers
+pub data Whole-kind : ℕ → Type 0 where
+  narrow : Whole-kind 1
+  wide : Whole-kind 2
+
+small : {k : ℕ} → Whole-kind k → k < 256
+small narrow = omega arith
+small wide = omega arith
+
+itself : {k : ℕ} → Whole-kind k → same (kindBy k) (kindBy k) ≡ true
+unfolding same kindNumber kindBy
+itself narrow = refl
+itself wide = refl
+
+shown-low : {k b : ℕ} → Whole-kind k → b < 2 ^ 64 → shown k b ≡ low (widthOf (eqb k 2)) b
 unfolding shown pick
-shown-low zero i h = absurd (i .some-kind refl)
-shown-low (suc zero) i h = refl
-shown-low (suc (suc zero)) i h = sym (low-all h)
-shown-low (suc (suc (suc zero))) i h = absurd (i .no-real refl)
-shown-low (suc (suc (suc (suc k)))) i h = absurd (omega (arith, i .few))
+shown-low narrow h = refl
+shown-low wide h = sym (low-all h)
 
 shown-one : (b : ℕ) → shown 1 b ≡ low w32 b
 unfolding shown pick
@@ -63,84 +72,75 @@ tag k (ok n) = refl
 tag k (bad e) = refl
 
 -- an operator of integers, on the bits shown
-integers : (f : Width → ℕ → ℕ → Answer ℕ ℕ) (k x y : ℕ) → Whole-kind k
+integers : (f : Width → ℕ → ℕ → Answer ℕ ℕ) {k : ℕ} (x y : ℕ) → Whole-kind k
     → (need (integersOf f (kindBy k)) 45 >>= λ g. g .bitsOf x y >>= λ n. ok (kindOfType (g .gives), n)) ≡ ofKind k (f (widthOf (eqb k 2)) x y)
 unfolding need _>>=_ integersOf meaning kindBy kindOfType kindNumber kind
-integers f zero x y i = absurd (i .some-kind refl)
-integers f (suc zero) x y i = tag 1 (f w32 x y)
-integers f (suc (suc zero)) x y i = tag 2 (f w64 x y)
-integers f (suc (suc (suc zero))) x y i = absurd (i .no-real refl)
-integers f (suc (suc (suc (suc k)))) x y i = absurd (omega (arith, i .few))
+integers f x y narrow = tag 1 (f w32 x y)
+integers f x y wide = tag 2 (f w64 x y)
 
-numbers : (o : Number) (k : ℕ) → Whole-kind k → numberOf o (kindBy k) ≡ integersOf (λ w. integer w o) (kindBy k)
+numbers : (o : Number) {k : ℕ} → Whole-kind k → numberOf o (kindBy k) ≡ integersOf (λ w. integer w o) (kindBy k)
 unfolding numberOf integersOf kindBy
-numbers o zero i = absurd (i .some-kind refl)
-numbers o (suc zero) i = refl
-numbers o (suc (suc zero)) i = refl
-numbers o (suc (suc (suc zero))) i = absurd (i .no-real refl)
-numbers o (suc (suc (suc (suc k)))) i = absurd (omega (arith, i .few))
+numbers o narrow = refl
+numbers o wide = refl
+
+-- an operator that has no meaning where the kinds pass its test
+refuses : (t : Bool) (m : Option Meaning) (x y : ℕ) → (t ≡ true → m ≡ none)
+    → _≡_ {A = Answer ℕ (ℕ × ℕ)} (bad 45) (need (onlyIf t m) 45 >>= λ g. g .bitsOf x y >>= λ n. ok (kindOfType (g .gives), n))
+unfolding onlyIf need _>>=_
+refuses false m x y h = refl
+refuses true m x y h = rw (h refl)
+
+no-integers : (f : Width → ℕ → ℕ → Answer ℕ ℕ) (k : ℕ) → (k ≡ 1 → ⊥) → (k ≡ 2 → ⊥) → integersOf f (kindBy k) ≡ none
+unfolding integersOf kindBy
+no-integers f zero n w = refl
+no-integers f (suc zero) n w = absurd (n refl)
+no-integers f (suc (suc zero)) n w = absurd (w refl)
+no-integers f (suc (suc (suc k))) n w = refl
+
+no-numbers : (o : Number) (k : ℕ) → k ≡ 0 → numberOf o (kindBy k) ≡ none
+unfolding numberOf kindBy
+no-numbers o k z = rw z
 
 module _ (k l a b : ℕ) (hk : k ≤ 3) (hl : l ≤ 3) where
-  pub number-mixed : (o : Number) → (k ≡ l → ⊥) → bad 45 ≡ binaryGives (number o) k l a b
-  unfolding binaryGives binaryOf onlyIf need _>>=_
-  number-mixed o n = simp (same-kind k l hk hl, ne-eqb _ _ n)
+  one-kind : same (kindBy k) (kindBy l) ≡ true → k ≡ l
+  one-kind q = eqb-true k l (sym (same-kind k l hk hl) ∙ q)
 
-  pub whole-mixed : (o : Whole) → (k ≡ l → ⊥) → bad 45 ≡ binaryGives (whole o) k l a b
-  unfolding binaryGives binaryOf onlyIf need _>>=_
-  whole-mixed o n = simp (same-kind k l hk hl, ne-eqb _ _ n)
+  pub number-wrong : (o : Number) → (k + l * 256 ≡ 257 → ⊥) → (k + l * 256 ≡ 514 → ⊥) → (k + l * 256 ≡ 771 → ⊥) → bad 45 ≡ binaryGives (number o) k l a b
+  unfolding binaryGives binaryOf
+  number-wrong o n w r = refuses _ _ _ _ (λ q. no-numbers o k (omega (arith, one-kind q)))
 
-  pub shift-mixed : (o : Shift) → (l ≡ 1 → ⊥) → bad 45 ≡ binaryGives (shift o) k l a b
-  unfolding binaryGives binaryOf onlyIf need _>>=_ same kindNumber
-  shift-mixed o n = simp (number-of l hl, ne-eqb _ _ n)
+  pub whole-wrong : (o : Whole) → (k + l * 256 ≡ 257 → ⊥) → (k + l * 256 ≡ 514 → ⊥) → bad 45 ≡ binaryGives (whole o) k l a b
+  unfolding binaryGives binaryOf
+  whole-wrong o n w = refuses _ _ _ _ (λ q. no-integers _ k (λ z. n (omega (arith, one-kind q))) (λ z. w (omega (arith, one-kind q))))
 
-  module _ (e : k ≡ l) where
-    pub number-reference : (o : Number) → k ≡ 0 → bad 45 ≡ binaryGives (number o) k l a b
-    unfolding binaryGives binaryOf onlyIf need _>>=_ same kindNumber kindBy numberOf
-    number-reference o z = rw (← e, z)
+  pub shift-wrong : (o : Shift) → (k + l * 256 ≡ 257 → ⊥) → (k + l * 256 ≡ 258 → ⊥) → bad 45 ≡ binaryGives (shift o) k l a b
+  unfolding binaryGives binaryOf same kindNumber
+  shift-wrong o n w =
+      refuses _ _ _ _ (λ q. let e : l ≡ 1 = eqb-true l 1 (sym (ap (λ m. eqb m 1) (number-of l hl)) ∙ q) in no-integers _ k (λ z. n (omega arith)) (λ z. w (omega arith)))
 
-    pub number-real : (o : Number) {r : ℕ} → k ≡ 3 → r ≡ real o a b → ok (3, r) ≡ binaryGives (number o) k l a b
-    unfolding binaryGives binaryOf onlyIf need _>>=_ same kindNumber kindBy numberOf meaning shown pick kindOfType kind
-    number-real o z q = rw (← e, z, q)
+  pub number-real : (o : Number) {r : ℕ} → k + l * 256 ≡ 771 → r ≡ real o a b → ok (3, r) ≡ binaryGives (number o) k l a b
+  unfolding binaryGives binaryOf onlyIf need _>>=_ same kindNumber kindBy numberOf meaning shown pick kindOfType kind
+  number-real o p q = let e = pair 3 3 (omega arith) (omega arith) p in rw (e .0, e .1, q)
 
-    pub whole-reference : (o : Whole) → k ≡ 0 → bad 45 ≡ binaryGives (whole o) k l a b
-    unfolding binaryGives binaryOf onlyIf need _>>=_ same kindNumber kindBy integersOf
-    whole-reference o z = rw (← e, z)
-
-    pub whole-real : (o : Whole) → k ≡ 3 → bad 45 ≡ binaryGives (whole o) k l a b
-    unfolding binaryGives binaryOf onlyIf need _>>=_ same kindNumber kindBy integersOf
-    whole-real o z = rw (← e, z)
-
-    module _ (i : Whole-kind k) (ha : a < 2 ^ 64) (hb : b < 2 ^ 64) {x : Answer ℕ ℕ} where
-      pub whole-bits : (o : Whole) → x ≡ wholeOf (widthOf (eqb k 2)) o (low (widthOf (eqb k 2)) a) (low (widthOf (eqb k 2)) b) → ofKind k x ≡ binaryGives (whole o) k l a b
-      unfolding binaryGives binaryOf onlyIf
-      whole-bits o q = rw (← e, same-kind k k hk hk, eq-eqb k k refl, q, shown-low k i ha, shown-low k i hb) (sym (integers (λ w. wholeOf w o) k _ _ i))
-
-      pub number-bits : (o : Number) → x ≡ integer (widthOf (eqb k 2)) o (low (widthOf (eqb k 2)) a) (low (widthOf (eqb k 2)) b) → ofKind k x ≡ binaryGives (number o) k l a b
-      unfolding binaryGives binaryOf onlyIf
-      number-bits o q = rw (← e, same-kind k k hk hk, eq-eqb k k refl, q, shown-low k i ha, shown-low k i hb, numbers o k i) (sym (integers (λ w. integer w o) k _ _ i))
-
-    pub number-narrow : (o : Number) {x : Answer ℕ ℕ} → k ≡ 1 → a < 2 ^ 64 → b < 2 ^ 64 → x ≡ integer w32 o (low w32 a) (low w32 b) → ofKind 1 x ≡ binaryGives (number o) k l a b
-    number-narrow o {x} z ha hb q =
-        let i : Whole-kind k = record { some-kind = λ y. omega arith; no-real = λ y. omega arith; few = hk } in
-        ap (λ n. ofKind n x) (sym z) ∙ number-bits i ha hb o (q ∙ rw z)
-
-    pub number-wide : (o : Number) {x : Answer ℕ ℕ} → k ≡ 2 → a < 2 ^ 64 → b < 2 ^ 64 → x ≡ integer w64 o (low w64 a) (low w64 b) → ofKind 2 x ≡ binaryGives (number o) k l a b
-    number-wide o {x} z ha hb q =
-        let i : Whole-kind k = record { some-kind = λ y. omega arith; no-real = λ y. omega arith; few = hk } in
-        ap (λ n. ofKind n x) (sym z) ∙ number-bits i ha hb o (q ∙ rw z)
-
-  module _ (e : l ≡ 1) where
-    pub shift-reference : (o : Shift) → k ≡ 0 → bad 45 ≡ binaryGives (shift o) k l a b
-    unfolding binaryGives binaryOf onlyIf need _>>=_ same kindNumber kindBy integersOf
-    shift-reference o z = rw (e, z)
-
-    pub shift-real : (o : Shift) → k ≡ 3 → bad 45 ≡ binaryGives (shift o) k l a b
-    unfolding binaryGives binaryOf onlyIf need _>>=_ same kindNumber kindBy integersOf
-    shift-real o z = rw (e, z)
-
-    pub shift-bits : (o : Shift) → Whole-kind k → a < 2 ^ 64 → {r : ℕ} → r ≡ shifted (widthOf (eqb k 2)) o (low (widthOf (eqb k 2)) a) (low w32 b) → ok (k, r) ≡ binaryGives (shift o) k l a b
+  module _ {j : ℕ} (i : Whole-kind j) (ha : a < 2 ^ 64) where
+    pub shift-bits : (o : Shift) → k + l * 256 ≡ j + 1 * 256 → {r : ℕ} → r ≡ shifted (widthOf (eqb j 2)) o (low (widthOf (eqb j 2)) a) (low w32 b) → ok (j, r) ≡ binaryGives (shift o) k l a b
     unfolding binaryGives binaryOf onlyIf same kindNumber kindBy
-    shift-bits o i ha q = rw (e, q, shown-low k i ha, shown-one b) (sym (integers (λ w x n. ok (shifted w o x n)) k _ _ i))
+    shift-bits o p q =
+        let e = pair j 1 (omega arith) (small i) p in
+        rw (e .0, e .1, q, shown-low i ha, shown-one b) (sym (integers (λ w x n. ok (shifted w o x n)) _ _ i))
+
+    module _ (hb : b < 2 ^ 64) (p : k + l * 256 ≡ j + j * 256) {x : Answer ℕ ℕ} where
+      pub whole-bits : (o : Whole) → x ≡ wholeOf (widthOf (eqb j 2)) o (low (widthOf (eqb j 2)) a) (low (widthOf (eqb j 2)) b) → ofKind j x ≡ binaryGives (whole o) k l a b
+      unfolding binaryGives binaryOf onlyIf
+      whole-bits o q =
+          let e = pair j j (omega arith) (small i) p in
+          rw (e .0, e .1, itself i, q, shown-low i ha, shown-low i hb) (sym (integers (λ w. wholeOf w o) _ _ i))
+
+      pub number-bits : (o : Number) → x ≡ integer (widthOf (eqb j 2)) o (low (widthOf (eqb j 2)) a) (low (widthOf (eqb j 2)) b) → ofKind j x ≡ binaryGives (number o) k l a b
+      unfolding binaryGives binaryOf onlyIf
+      number-bits o q =
+          let e = pair j j (omega arith) (small i) p in
+          rw (e .0, e .1, itself i, q, shown-low i ha, shown-low i hb, numbers o i) (sym (integers (λ w. integer w o) _ _ i))
 
 -- ---- Comparisons
 
@@ -169,6 +169,10 @@ module _ (k l a b : ℕ) (hk : k ≤ 3) (hl : l ≤ 3) where
     unfolding compared comparison onlyIf mapOption same kindNumber kindBy relationOf shown pick
     compared-real r z q = rw (← e, z, q)
 
+    pub compared-wide : (r : Relation) {t : Bool} → k ≡ 2 → a < 2 ^ 64 → b < 2 ^ 64 → t ≡ relates w64 r (low w64 a) (low w64 b) → some t ≡ compared r k l a b
+    unfolding compared comparison onlyIf mapOption same kindNumber kindBy relationOf shown pick
+    compared-wide r z ha hb q = rw (← e, z, q, low-all ha, low-all hb)
+
     pub compared-order : (n : ℕ) → k ≡ 0 → 1 < n → none ≡ compared (relationBy n) k l a b
     unfolding compared comparison onlyIf mapOption same kindNumber kindBy relationOf
     compared-order n z h = rw (← e, z, ordered n h)
@@ -179,29 +183,9 @@ module _ (k l a b : ℕ) (hk : k ≤ 3) (hl : l ≤ 3) where
     compared-reference (suc zero) z h ha hb q = rw (← e, z, q, low-all ha, low-all hb)
     compared-reference (suc (suc n)) z h ha hb q = absurd (omega arith)
 
-related-kind : (r : Relation) (k : ℕ) → Whole-kind k → relationOf r (kindBy k) ≡ some (relates (widthOf (eqb k 2)) r)
-unfolding relationOf kindBy
-related-kind r zero i = absurd (i .some-kind refl)
-related-kind r (suc zero) i = refl
-related-kind r (suc (suc zero)) i = refl
-related-kind r (suc (suc (suc zero))) i = absurd (i .no-real refl)
-related-kind r (suc (suc (suc (suc k)))) i = absurd (omega (arith, i .few))
-
-compared-bits : (r : Relation) (k l a b : ℕ) {t : Bool} → k ≡ l → Whole-kind k → a < 2 ^ 64 → b < 2 ^ 64
-    → t ≡ relates (widthOf (eqb k 2)) r (low (widthOf (eqb k 2)) a) (low (widthOf (eqb k 2)) b) → some t ≡ compared r k l a b
-unfolding compared comparison onlyIf mapOption
-compared-bits r k l a b e i ha hb q =
-    rw (← e, same-kind k k (i .few) (i .few), eq-eqb k k refl, related-kind r k i, q, shown-low k i ha, shown-low k i hb)
-
-pub compared-narrow : (r : Relation) (k l a b : ℕ) {t : Bool} → k ≡ l → k ≡ 1 → a < 2 ^ 64 → b < 2 ^ 64 → t ≡ relates w32 r (low w32 a) (low w32 b) → some t ≡ compared r k l a b
-compared-narrow r k l a b e z ha hb q =
-    let i : Whole-kind k = record { some-kind = λ y. omega arith; no-real = λ y. omega arith; few = omega arith } in
-    compared-bits r k l a b e i ha hb (q ∙ rw z)
-
-pub compared-wide : (r : Relation) (k l a b : ℕ) {t : Bool} → k ≡ l → k ≡ 2 → a < 2 ^ 64 → b < 2 ^ 64 → t ≡ relates w64 r (low w64 a) (low w64 b) → some t ≡ compared r k l a b
-compared-wide r k l a b e z ha hb q =
-    let i : Whole-kind k = record { some-kind = λ y. omega arith; no-real = λ y. omega arith; few = omega arith } in
-    compared-bits r k l a b e i ha hb (q ∙ rw z)
+pub compared-narrow : (r : Relation) (k l a b : ℕ) {t : Bool} → k ≡ 1 → l ≡ 1 → t ≡ relates w32 r (low w32 a) (low w32 b) → some t ≡ compared r k l a b
+unfolding compared comparison onlyIf mapOption same kindNumber kindBy relationOf shown pick
+compared-narrow r k l a b x y q = rw (x, y, q)
 
 module _ (r : Relation) (k l a b : ℕ) where
   flagged : Option Bool → Answer ℕ (ℕ × ℕ)

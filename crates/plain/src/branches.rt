@@ -2,6 +2,7 @@
 use crate::Gone;
 use crate::comparisons::Holds;
 use crate::comparisons::related;
+use crate::comparisons::related_bits;
 use crate::stack::ends;
 use crate::stack::moved;
 use crate::stack::onward;
@@ -66,7 +67,17 @@ pub fn when(
     }
     let i = g.top * 32 + (d - 2);
     let j = i + 1;
-    let said = related(relation, kinds[i], kinds[j], bits[i], bits[j]);
+    let k = kinds[i];
+    let l = kinds[j];
+    if k == 1 {
+        if l == 1 {
+            if related_bits(relation, false, bits[i], bits[j]) {
+                return moved(g, target, d - 2);
+            }
+            return moved(g, next, d - 2);
+        }
+    }
+    let said = related(relation, k, l, bits[i], bits[j]);
     match said {
         Holds::Says(b) => {
             if b {

@@ -1,6 +1,6 @@
 // Comparisons of two cells. A relation is a number: 0 eq, 1 ne, 2 lt, 3 le, 4 gt, 5 ge, 6 lt.un, 7 le.un, 8 gt.un, 9 ge.un.
 ghost use mathlib.Core.Path.{_≡_};
-ghost use Prim.Native.Nat.{_≤_};
+ghost use Prim.Native.Nat.{_+_, _*_, _≤_};
 ghost use Rattle.model.specs.Operators.{relates, relatesF, double};
 ghost use Rattle.bits.specs.Cells.{widthOf, low};
 ghost use Rattle.plain.specs.Gives.{relationBy, compared, says};
@@ -11,7 +11,7 @@ pub enum Holds {
     Wrong,
 }
 
-fn related_bits(relation: u8, wide: bool, a: u64, b: u64) -> bool
+pub fn related_bits(relation: u8, wide: bool, a: u64, b: u64) -> bool
     ensures { λ r. ⌜ r ≡ relates (widthOf wide) (relationBy relation) (low (widthOf wide) a) (low (widthOf wide) b) ⌝ }
 {
     match relation {
@@ -65,4 +65,11 @@ pub fn related(relation: u8, k: u8, l: u8, a: u64, b: u64) -> Holds
         return Holds::Says(related_bits(relation, true, a, b));
     }
     Holds::Says(related_real(relation, a, b))
+}
+
+// Two kinds as one number, so that a pair of them is one test.
+pub fn both(k: u8, l: u8) -> u16
+    ensures { λ r. ⌜ r ≡ k + l * 256 ⌝ }
+{
+    k as u16 + l as u16 * 256
 }

@@ -1,7 +1,9 @@
 // Operators on one or two cells of the stack.
 use crate::Gone;
 use crate::comparisons::Holds;
+use crate::comparisons::both;
 use crate::comparisons::related;
+use crate::comparisons::related_bits;
 use crate::stack::ends;
 use crate::stack::moved;
 use bits::Out;
@@ -60,19 +62,16 @@ fn number_real(op: u8, a: u64, b: u64) -> u64
 fn number(op: u8, k: u8, l: u8, a: u64, b: u64) -> Given
     ensures { λ r. ⌜ (k ≤ 3 → l ≤ 3 → given r ≡ binaryGives (number (numberBy op)) k l a b) ⌝ }
 {
-    if k != l {
-        return Given::Ends(45);
-    }
-    if k < 2 {
-        if k == 0 {
-            return Given::Ends(45);
-        }
+    if both(k, l) == 257 {
         return tagged(1, number_bits(op, false, a, b));
     }
-    if k == 2 {
+    if both(k, l) == 514 {
         return tagged(2, number_bits(op, true, a, b));
     }
-    Given::Cell(3, number_real(op, a, b))
+    if both(k, l) == 771 {
+        return Given::Cell(3, number_real(op, a, b));
+    }
+    Given::Ends(45)
 }
 
 // ---- rem, div.un, rem.un, and, or, xor, add.ovf, mul.ovf, sub.ovf
@@ -96,16 +95,13 @@ fn whole_bits(op: u8, wide: bool, a: u64, b: u64) -> Out
 fn whole(op: u8, k: u8, l: u8, a: u64, b: u64) -> Given
     ensures { λ r. ⌜ (k ≤ 3 → l ≤ 3 → given r ≡ binaryGives (whole (wholeBy op)) k l a b) ⌝ }
 {
-    if k != l {
-        return Given::Ends(45);
+    if both(k, l) == 257 {
+        return tagged(1, whole_bits(op, false, a, b));
     }
-    if k == 0 {
-        return Given::Ends(45);
+    if both(k, l) == 514 {
+        return tagged(2, whole_bits(op, true, a, b));
     }
-    if k == 3 {
-        return Given::Ends(45);
-    }
-    tagged(k, whole_bits(op, k == 2, a, b))
+    Given::Ends(45)
 }
 
 // ---- shl, shr, shr.un: by an int32
@@ -123,16 +119,13 @@ fn shift_bits(op: u8, wide: bool, a: u64, n: u64) -> u64
 fn shift(op: u8, k: u8, l: u8, a: u64, n: u64) -> Given
     ensures { λ r. ⌜ (k ≤ 3 → l ≤ 3 → given r ≡ binaryGives (shift (shiftBy op)) k l a n) ⌝ }
 {
-    if l != 1 {
-        return Given::Ends(45);
+    if both(k, l) == 257 {
+        return Given::Cell(1, shift_bits(op, false, a, n));
     }
-    if k == 0 {
-        return Given::Ends(45);
+    if both(k, l) == 258 {
+        return Given::Cell(2, shift_bits(op, true, a, n));
     }
-    if k == 3 {
-        return Given::Ends(45);
-    }
-    Given::Cell(k, shift_bits(op, k == 2, a, n))
+    Given::Ends(45)
 }
 
 // ---- ceq, cgt, clt and the like: 1 or 0
@@ -140,6 +133,12 @@ fn shift(op: u8, k: u8, l: u8, a: u64, n: u64) -> Given
 fn compare(relation: u8, k: u8, l: u8, a: u64, b: u64) -> Given
     ensures { λ r. ⌜ (k ≤ 3 → l ≤ 3 → given r ≡ binaryGives (compare (relationBy relation)) k l a b) ⌝ }
 {
+    if both(k, l) == 257 {
+        if related_bits(relation, false, a, b) {
+            return Given::Cell(1, 1);
+        }
+        return Given::Cell(1, 0);
+    }
     let said = related(relation, k, l, a, b);
     match said {
         Holds::Says(b) => {

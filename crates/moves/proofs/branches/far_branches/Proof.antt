@@ -1,7 +1,8 @@
 use borrow.Author.Needs.{needs}
 use mathlib.Core.Path.{refl}
 use Rattle.model.specs.Code.{far}
-use Rattle.moves.proofs.Opcodes.{differ, fars}
+use Rattle.opcodes.proofs.Trying.{differ}
+use Rattle.moves.proofs.Opcodes.{fars}
 use Rattle.moves.proofs.Branching.{branch-taken, branch-left}
 use Rattle.moves.proofs.branches.far_branches.Statement.{statement}
 use Rattle.moves.proofs.branches.far_branches.Tie as tie

@@ -1,7 +1,8 @@
 use borrow.Author.Needs.{needs}
 use mathlib.Core.Path.{refl}
 use Rattle.model.specs.Code.{near}
-use Rattle.moves.proofs.Opcodes.{differ, nears}
+use Rattle.opcodes.proofs.Trying.{differ}
+use Rattle.moves.proofs.Opcodes.{nears}
 use Rattle.moves.proofs.Branching.{branch-taken, branch-left}
 use Rattle.moves.proofs.branches.near_branches.Statement.{statement}
 use Rattle.moves.proofs.branches.near_branches.Tie as tie

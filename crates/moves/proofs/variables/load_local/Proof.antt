@@ -1,14 +1,11 @@
 use borrow.Author.Needs.{needs}
-use Rattle.model.specs.Code.{ldloc}
 use Rattle.cells.specs.Cells.{actC}
 use Rattle.plain.proofs.Answers.{instead}
-use Rattle.moves.proofs.Whole.{is-whole, is-cut}
-use Rattle.moves.proofs.Numbering.{one-more, numbered-cut, numbered-goes}
+use Rattle.opcodes.proofs.Sizes.{there, cut}
+use Rattle.moves.proofs.Opcodes.{shorts}
+use Rattle.moves.proofs.Variable.{short-cut, short-goes}
 use Rattle.moves.proofs.variables.load_local.Statement.{statement}
 use Rattle.moves.proofs.variables.load_local.Tie as tie
-
-width-requires : tie.Need-width-requires
-width-requires c κs = search needs
 
 whole-requires : tie.Need-whole-requires
 whole-requires c κs = search needs
@@ -19,11 +16,10 @@ ends-requires c κs = search needs
 returns : tie.Need-returns
 returns c =
     rw (c .ends .ensures)
-    (search needs, λ L D s k t a n b. numbered-cut L D _ _ (c .before .before .before .before .before .pre .1 .0 .0) b ldloc n (c .before .before .before .width .ensures .0) (is-cut _ _ (c .before .before .whole .ensures) (c .before .if1 .taken)))
+    (search needs, λ L D s k t a e. short-cut L D _ _ (c .before .before .before .before .pre .1 .0 .0) (shorts .2) e (cut (c .before .before .whole .ensures) (c .before .if1 .taken)))
 
-index-requires : tie.Need-index-requires
-index-requires c κs =
-    (c .before .before .before .before .before .before .pre .1 .0, one-more (c .before .before .before .before .width .ensures .0) (is-whole _ _ (c .before .before .before .whole .ensures) (c .before .before .if1 .left)))
+byte-after-requires : tie.Need-byte-after-requires
+byte-after-requires c κs = there (c .before .before .before .whole .ensures) (c .before .before .if1 .left)
 
 add-ldloc : tie.Need-add-ldloc
 add-ldloc c = search needs
@@ -34,17 +30,16 @@ ldloc-requires c κs = search needs
 returns-2 : tie.Need-returns-2
 unfolding actC
 returns-2 c =
-    (c .ldloc .ensures .0, λ L D s k t a n b. instead (numbered-goes L D _ _ (c .before .before .before .before .before .before .before .before .before .pre .1 .0 .0) b ldloc n (c .before .before .before .before .before .before .before .width .ensures .0) (is-whole _ _ (c .before .before .before .before .before .before .whole .ensures) (c .before .before .before .before .before .if1 .left)) (c .before .before .index .ensures)) (c .ldloc .ensures .1 L s k t a))
+    (c .ldloc .ensures .0, λ L D s k t a e. instead (short-goes L D _ _ (c .before .before .before .before .before .before .before .before .pre .1 .0 .0) (shorts .2) e (there (c .before .before .before .before .before .before .whole .ensures) (c .before .before .before .before .before .if1 .left)) (c .before .before .byte-after .ensures .0)) (c .ldloc .ensures .1 L s k t a))
 
 pub load-local-spec : {M : Type 1} → statement M
 load-local-spec =
     tie.close
     (tie.spec
-    width-requires
     whole-requires
     ends-requires
     returns
-    index-requires
+    byte-after-requires
     add-ldloc
     ldloc-requires
     returns-2)

@@ -1,6 +1,6 @@
 use borrow.Author.Needs.{needs}
 use Rattle.plain.proofs.Answers.{instead}
-use Rattle.operations.proofs.Cut.{cut, there}
+use Rattle.opcodes.proofs.Sizes.{cut, there}
 use Rattle.operations.proofs.Pushes.{i4-cut, i4-does}
 use Rattle.operations.proofs.constants.ldc_i4.Statement.{statement}
 use Rattle.operations.proofs.constants.ldc_i4.Tie as tie

@@ -1,6 +1,6 @@
 use borrow.Author.Needs.{needs}
 use Rattle.plain.proofs.Answers.{instead}
-use Rattle.operations.proofs.Cut.{cut, there}
+use Rattle.opcodes.proofs.Sizes.{cut, there}
 use Rattle.operations.proofs.Pushes.{i4-s-cut, i4-s-does}
 use Rattle.operations.proofs.constants.ldc_i4_s.Statement.{statement}
 use Rattle.operations.proofs.constants.ldc_i4_s.Tie as tie

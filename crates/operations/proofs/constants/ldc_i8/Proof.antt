@@ -1,6 +1,6 @@
 use borrow.Author.Needs.{needs}
 use Rattle.plain.proofs.Answers.{instead}
-use Rattle.operations.proofs.Cut.{cut, there}
+use Rattle.opcodes.proofs.Sizes.{cut, there}
 use Rattle.operations.proofs.Pushes.{i8-cut, i8-does}
 use Rattle.operations.proofs.constants.ldc_i8.Statement.{statement}
 use Rattle.operations.proofs.constants.ldc_i8.Tie as tie

@@ -1,6 +1,6 @@
 use borrow.Author.Needs.{needs}
 use Rattle.plain.proofs.Answers.{instead}
-use Rattle.operations.proofs.Cut.{cut, there}
+use Rattle.opcodes.proofs.Sizes.{cut, there}
 use Rattle.operations.proofs.Pushes.{r8-cut, r8-does}
 use Rattle.operations.proofs.constants.ldc_r8.Statement.{statement}
 use Rattle.operations.proofs.constants.ldc_r8.Tie as tie

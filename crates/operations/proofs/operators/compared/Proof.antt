@@ -1,6 +1,6 @@
 use borrow.Author.Needs.{needs}
 use Rattle.plain.proofs.Answers.{instead}
-use Rattle.operations.proofs.Cut.{cut, there}
+use Rattle.opcodes.proofs.Sizes.{cut, there}
 use Rattle.operations.proofs.Operates.{second-cut, second-none, ceq-does, cgt-does, cgt-un-does, clt-does, clt-un-does}
 use Rattle.operations.proofs.operators.compared.Statement.{statement}
 use Rattle.operations.proofs.operators.compared.Tie as tie

@@ -12,7 +12,7 @@ related-bits-requires c κs = search needs
 
 returns-2 : tie.Need-returns-2
 returns-2 c =
-    λ h l. compared-narrow _ _ _ _ _ (c .before .before .before .if1 .left) (c .before .if3 .taken) (c .before .before .before .before .fits .a .fits) (c .before .before .before .before .fits .b .fits) (c .related-bits .ensures)
+    λ h l. compared-narrow _ _ _ _ _ (c .before .if3 .taken) (omega arith) (c .related-bits .ensures)
 
 returns-3 : tie.Need-returns-3
 returns-3 c =
@@ -30,7 +30,7 @@ related-bits-requires-3 c κs = search needs
 
 returns-5 : tie.Need-returns-5
 returns-5 c =
-    λ h l. compared-wide _ _ _ _ _ (c .before .before .before .if1 .left) (c .before .if5 .taken) (c .before .before .before .before .fits .a .fits) (c .before .before .before .before .fits .b .fits) (c .related-bits3 .ensures)
+    λ h l. compared-wide _ _ _ _ h l (c .before .before .before .if1 .left) _ (c .before .if5 .taken) (c .before .before .before .before .fits .a .fits) (c .before .before .before .before .fits .b .fits) (c .related-bits3 .ensures)
 
 related-real-requires : tie.Need-related-real-requires
 related-real-requires c κs = search needs

@@ -1,2 +1,0 @@
--- What the contracts of arguments and locals speak of.
-pub mod Variables
