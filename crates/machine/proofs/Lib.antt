@@ -1,6 +1,6 @@
 pub mod Chain
 pub mod Order
-pub mod Chained
 pub mod Kept
+pub mod Chained
 pub mod Going
 pub mod Exits

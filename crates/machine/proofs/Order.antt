@@ -116,32 +116,30 @@ module _ {code : List ℕ} {L : Loaded} {D : Derived} {table : List ℕ} {c : Ce
 
   -- ---- The code of the running method
 
-  pub code-long : 0 < getD (L .lengths) (c .regs .method) 0 → length (codeOf L code c) ≡ getD (L .lengths) (c .regs .method) 0
-  unfolding codeOf partOf
-  code-long h =
-      let i = tables-few .part-inside (c .regs .method) h in
-      let t = length-take (getD (L .lengths) (c .regs .method) 0) (drop (getD (L .offsets) (c .regs .method) 0) code) in
-      let d = length-drop (getD (L .offsets) (c .regs .method) 0) code in
-      omega arith
+  -- as it is cut out of the whole
+  abbrev pub cutOut : List ℕ
+  cutOut = take ((getD (L .offsets) (c .regs .method) 0 + getD (L .lengths) (c .regs .method) 0) - getD (L .offsets) (c .regs .method) 0) (drop (getD (L .offsets) (c .regs .method) 0) code)
 
-  pub part-is : take ((getD (L .offsets) (c .regs .method) 0 + getD (L .lengths) (c .regs .method) 0) - getD (L .offsets) (c .regs .method) 0) (drop (getD (L .offsets) (c .regs .method) 0) code) ≡ codeOf L code c
+  pub part-is : cutOut ≡ codeOf L code c
   unfolding codeOf
   part-is = part-whole code (getD (L .offsets) (c .regs .method) 0) (getD (L .lengths) (c .regs .method) 0)
 
-  module _ (inside : c .regs .at < getD (L .lengths) (c .regs .method) 0) where
+  module _ (some : 0 < getD (L .lengths) (c .regs .method) 0) where
     pub part-inside : getD (L .offsets) (c .regs .method) 0 + getD (L .lengths) (c .regs .method) 0 ≤ length code
-    part-inside = tables-few .part-inside (c .regs .method) (omega arith)
+    part-inside = tables-few .part-inside (c .regs .method) some
 
-    part-long : length (take ((getD (L .offsets) (c .regs .method) 0 + getD (L .lengths) (c .regs .method) 0) - getD (L .offsets) (c .regs .method) 0) (drop (getD (L .offsets) (c .regs .method) 0) code)) ≡ getD (L .lengths) (c .regs .method) 0
-    part-long = ap length part-is ∙ code-long (omega arith)
-
-    pub at-inside : c .regs .at < length (take ((getD (L .offsets) (c .regs .method) 0 + getD (L .lengths) (c .regs .method) 0) - getD (L .offsets) (c .regs .method) 0) (drop (getD (L .offsets) (c .regs .method) 0) code))
-    at-inside = let l = part-long in omega arith
+    pub part-long : length cutOut ≡ getD (L .lengths) (c .regs .method) 0
+    unfolding codeOf partOf
+    part-long =
+        let i = part-inside in
+        let t = length-take (getD (L .lengths) (c .regs .method) 0) (drop (getD (L .offsets) (c .regs .method) 0) code) in
+        let d = length-drop (getD (L .offsets) (c .regs .method) 0) code in
+        let l = ap length part-is in
+        omega arith
 
     -- the byte at the offset, read from the part
-    pub reads : (b : ℕ) → (getD (take ((getD (L .offsets) (c .regs .method) 0 + getD (L .lengths) (c .regs .method) 0) - getD (L .offsets) (c .regs .method) 0) (drop (getD (L .offsets) (c .regs .method) 0) code)) (c .regs .at) 0 ≡ b) × (b < 256)
-        → Reads (c .regs) (take ((getD (L .offsets) (c .regs .method) 0 + getD (L .lengths) (c .regs .method) 0) - getD (L .offsets) (c .regs .method) 0) (drop (getD (L .offsets) (c .regs .method) 0) code)) b
-    reads b e =
+    pub reads : c .regs .at < length cutOut → (b : ℕ) → (getD cutOut (c .regs .at) 0 ≡ b) × (b < 256) → Reads (c .regs) cutOut b
+    reads inside b e =
         let l = part-long in
         let m = tables-few .length-few (c .regs .method) in
-        record { inside = at-inside; most = omega arith; byte = e .0; few = e .1 }
+        record { inside = inside; most = omega arith; byte = e .0; few = e .1 }

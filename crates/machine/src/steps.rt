@@ -28,13 +28,6 @@ pub struct Left {
     pub cells: Cells,
 }
 
-// The code's length is a number of the machine.
-fn length_held(code: &[u8]) -> usize
-    ensures { λ _. ⌜ length (now (code .entry)) < 0x10000000000000000 ⌝ }
-{
-    code.len()
-}
-
 // The byte at an offset of a method's code.
 fn byte_at(part: &[u8], at: usize) -> u8
     requires { ⌜ at < length (now part) ⌝ }
@@ -49,33 +42,33 @@ fn handed_back(
     over: bool,
     steps: u64,
     g: Regs,
-    kinds: &[u8; 1024],
-    bits: &[u64; 1024],
-    args: &[u64; 256],
-    locs: &[u64; 512],
-    ats: &[usize; 32],
-    depths: &[usize; 32],
-    methods: &[usize; 32],
-    statics: &[u64; 64],
-    marks: &[u8; 33],
-    classes: &[u8; 256],
-    heap: &[u64; 2048],
+    kinds: [u8; 1024],
+    bits: [u64; 1024],
+    args: [u64; 256],
+    locs: [u64; 512],
+    ats: [usize; 32],
+    depths: [usize; 32],
+    methods: [usize; 32],
+    statics: [u64; 64],
+    marks: [u8; 33],
+    classes: [u8; 256],
+    heap: [u64; 2048],
 ) -> Left
-    ensures { λ r. ⌜ r ≡ record { ending = ending; over = over; steps = steps; cells = pack g (now (kinds .entry)) (now (bits .entry)) (now (args .entry)) (now (locs .entry)) (now (ats .entry)) (now (depths .entry)) (now (methods .entry)) (now (statics .entry)) (now (marks .entry)) (now (classes .entry)) (now (heap .entry)) } ⌝ }
+    ensures { λ r. ⌜ r ≡ record { ending = ending; over = over; steps = steps; cells = pack g kinds bits args locs ats depths methods statics marks classes heap } ⌝ }
 {
     let cells = Cells {
         regs: g,
-        kinds: *kinds,
-        bits: *bits,
-        args: *args,
-        locs: *locs,
-        ats: *ats,
-        depths: *depths,
-        methods: *methods,
-        statics: *statics,
-        marks: *marks,
-        classes: *classes,
-        heap: *heap,
+        kinds: kinds,
+        bits: bits,
+        args: args,
+        locs: locs,
+        ats: ats,
+        depths: depths,
+        methods: methods,
+        statics: statics,
+        marks: marks,
+        classes: classes,
+        heap: heap,
     };
     Left {
         ending: ending,
@@ -97,7 +90,6 @@ pub fn steps(
     requires { ⌜ Begins (now code) m d table first ⌝ }
     ensures { λ r. ⌜ endedBy m r ≡ runC m d (now (code .entry)) budget 0 first ⌝ }
 {
-    length_held(code);
     let mut kinds = first.kinds;
     let mut bits = first.bits;
     let mut args = first.args;
@@ -127,7 +119,9 @@ pub fn steps(
     let chosen = d.chosen;
     let mut g = first.regs;
     let mut n: u64 = 0;
+    // A turn of the outer loop for each stay in a frame: what is looked up by its number and its method is looked up once.
     while n < budget {
+        let top = g.top;
         let row = g.method;
         if lengths[row] <= g.at {
             return handed_back(
@@ -135,197 +129,259 @@ pub fn steps(
                 false,
                 n,
                 g,
-                &kinds,
-                &bits,
-                &args,
-                &locs,
-                &ats,
-                &depths,
-                &methods,
-                &statics,
-                &marks,
-                &classes,
-                &heap,
+                kinds,
+                bits,
+                args,
+                locs,
+                ats,
+                depths,
+                methods,
+                statics,
+                marks,
+                classes,
+                heap,
             );
         }
         let from = offsets[row];
         let end = from + lengths[row];
         let part = &code[from..end];
-        let op = byte_at(part, g.at);
-        let t0 = other(g);
-        let t1 = returning(
-            t0,
-            g,
-            part,
-            op,
-            &mut kinds,
-            &mut bits,
-            &ats,
-            &depths,
-            &methods,
-            &classes,
-            &table,
-            &sorts,
-            &returns,
-        );
-        let t2 = constants(t1, g, part, op, &mut kinds, &mut bits, &stacks);
-        let t3 = near_branches(t2, g, part, op, &kinds, &bits, &lengths);
-        let t4 = far_branches(t3, g, part, op, &kinds, &bits, &lengths);
-        let t5 = variables(
-            t4,
-            g,
-            part,
-            op,
-            &mut kinds,
-            &mut bits,
-            &mut args,
-            &mut locs,
-            &classes,
-            &table,
-            &stacks,
-            &types,
-            &arguments,
-            &locals,
-        );
-        let t6 = casts(
-            t5,
-            g,
-            part,
-            op,
-            &kinds,
-            &mut bits,
-            &classes,
-            &table,
-            m.classes,
-        );
-        let t7 = fields(
-            t6,
-            g,
-            part,
-            op,
-            &mut kinds,
-            &mut bits,
-            &mut locs,
-            &mut ats,
-            &mut depths,
-            &mut methods,
-            &mut marks,
-            &classes,
-            &mut heap,
-            &mut statics,
-            &table,
-            m.fields,
-            &field_owners,
-            &flags,
-            &field_types,
-            &slots,
-            &stacks,
-            &locals,
-            &initialisers,
-        );
-        let t8 = calls(
-            t7,
-            g,
-            part,
-            op,
-            &mut kinds,
-            &mut bits,
-            &mut args,
-            &mut locs,
-            &mut ats,
-            &mut depths,
-            &mut methods,
-            &mut marks,
-            &mut classes,
-            &table,
-            m.methods,
-            &sorts,
-            &owners,
-            &returns,
-            &stacks,
-            &arguments,
-            &locals,
-            &types,
-            &initialisers,
-            &roots,
-            &chosen,
-        );
-        let t9 = operators(t8, g, part, op, &mut kinds, &mut bits);
-        g = t9.gone.regs;
-        if !t9.mine {
-            return handed_back(
-                41,
-                false,
-                n,
-                g,
-                &kinds,
-                &bits,
-                &args,
-                &locs,
-                &ats,
-                &depths,
-                &methods,
-                &statics,
-                &marks,
+        while n < budget {
+            // The same registers as g, with the frame and the method of this stay.
+            let h = Regs {
+                top: top,
+                method: row,
+                at: g.at,
+                depth: g.depth,
+                made: g.made,
+            };
+            if part.len() <= h.at {
+                return handed_back(
+                    46,
+                    false,
+                    n,
+                    h,
+                    kinds,
+                    bits,
+                    args,
+                    locs,
+                    ats,
+                    depths,
+                    methods,
+                    statics,
+                    marks,
+                    classes,
+                    heap,
+                );
+            }
+            let op = byte_at(part, h.at);
+            let t0 = other(h);
+            let t1 = constants(t0, h, part, op, &mut kinds, &mut bits, &stacks);
+            let t2 = near_branches(t1, h, part, op, &kinds, &bits, &lengths);
+            let t3 = far_branches(t2, h, part, op, &kinds, &bits, &lengths);
+            let t4 = variables(
+                t3,
+                h,
+                part,
+                op,
+                &mut kinds,
+                &mut bits,
+                &mut args,
+                &mut locs,
                 &classes,
-                &heap,
+                &table,
+                &stacks,
+                &types,
+                &arguments,
+                &locals,
             );
-        }
-        if t9.over {
-            return handed_back(
-                0,
-                true,
-                n + 1,
-                g,
+            let t5 = casts(
+                t4,
+                h,
+                part,
+                op,
                 &kinds,
-                &bits,
-                &args,
-                &locs,
-                &ats,
-                &depths,
-                &methods,
-                &statics,
-                &marks,
+                &mut bits,
                 &classes,
-                &heap,
+                &table,
+                m.classes,
             );
-        }
-        if t9.gone.ending != 0 {
-            return handed_back(
-                t9.gone.ending,
-                false,
-                n,
-                g,
-                &kinds,
-                &bits,
-                &args,
-                &locs,
-                &ats,
-                &depths,
-                &methods,
-                &statics,
-                &marks,
+            let t6 = operators(t5, h, part, op, &mut kinds, &mut bits);
+            let t7 = fields(
+                t6,
+                h,
+                part,
+                op,
+                &mut kinds,
+                &mut bits,
+                &mut locs,
+                &mut ats,
+                &mut depths,
+                &mut methods,
+                &mut marks,
                 &classes,
-                &heap,
+                &mut heap,
+                &mut statics,
+                &table,
+                m.fields,
+                &field_owners,
+                &flags,
+                &field_types,
+                &slots,
+                &stacks,
+                &locals,
+                &initialisers,
             );
+            // What changes the frame stands in a block that always leaves.
+            if !t7.mine {
+                let t8 = returning(
+                    t7,
+                    h,
+                    part,
+                    op,
+                    &mut kinds,
+                    &mut bits,
+                    &ats,
+                    &depths,
+                    &methods,
+                    &classes,
+                    &table,
+                    &sorts,
+                    &returns,
+                );
+                let t9 = calls(
+                    t8,
+                    h,
+                    part,
+                    op,
+                    &mut kinds,
+                    &mut bits,
+                    &mut args,
+                    &mut locs,
+                    &mut ats,
+                    &mut depths,
+                    &mut methods,
+                    &mut marks,
+                    &mut classes,
+                    &table,
+                    m.methods,
+                    &sorts,
+                    &owners,
+                    &returns,
+                    &stacks,
+                    &arguments,
+                    &locals,
+                    &types,
+                    &initialisers,
+                    &roots,
+                    &chosen,
+                );
+                g = t9.gone.regs;
+                if !t9.mine {
+                    return handed_back(
+                        41,
+                        false,
+                        n,
+                        g,
+                        kinds,
+                        bits,
+                        args,
+                        locs,
+                        ats,
+                        depths,
+                        methods,
+                        statics,
+                        marks,
+                        classes,
+                        heap,
+                    );
+                }
+                if t9.over {
+                    return handed_back(
+                        0,
+                        true,
+                        n + 1,
+                        g,
+                        kinds,
+                        bits,
+                        args,
+                        locs,
+                        ats,
+                        depths,
+                        methods,
+                        statics,
+                        marks,
+                        classes,
+                        heap,
+                    );
+                }
+                if t9.gone.ending != 0 {
+                    return handed_back(
+                        t9.gone.ending,
+                        false,
+                        n,
+                        g,
+                        kinds,
+                        bits,
+                        args,
+                        locs,
+                        ats,
+                        depths,
+                        methods,
+                        statics,
+                        marks,
+                        classes,
+                        heap,
+                    );
+                }
+                n += 1;
+                break;
+            }
+            g = t7.gone.regs;
+            if t7.gone.ending != 0 {
+                return handed_back(
+                    t7.gone.ending,
+                    false,
+                    n,
+                    g,
+                    kinds,
+                    bits,
+                    args,
+                    locs,
+                    ats,
+                    depths,
+                    methods,
+                    statics,
+                    marks,
+                    classes,
+                    heap,
+                );
+            }
+            if g.top != top {
+                n += 1;
+                break;
+            }
+            if g.method != row {
+                n += 1;
+                break;
+            }
+            n += 1;
         }
-        n += 1;
     }
     handed_back(
         38,
         false,
         n,
         g,
-        &kinds,
-        &bits,
-        &args,
-        &locs,
-        &ats,
-        &depths,
-        &methods,
-        &statics,
-        &marks,
-        &classes,
-        &heap,
+        kinds,
+        bits,
+        args,
+        locs,
+        ats,
+        depths,
+        methods,
+        statics,
+        marks,
+        classes,
+        heap,
     )
 }
