@@ -101,7 +101,7 @@ module _ (code : List ℕ) (o : ℕ) (inside : o < length code) where
       ∙ ap (λ (F : Option Form). said F (rest code o) (o + 2)) (ap (formOf instructions) e ∙ form-FE)
       ∙ said-second (formOf afterFE (little 1 (rest code o))) (o + 2) (rest code o) (after-bare (little 1 (rest code o)))
 
-  second-byte : little 1 (rest code o) ≡ getD code (suc o) 0
+  pub second-byte : little 1 (rest code o) ≡ getD code (suc o) 0
   second-byte = one (rest code o) ∙ getD-drop (suc o) code 0 0 ∙ ap (λ (k : ℕ). getD code k 0) (add-zero (suc o))
 
   pub second-at : (i : Ins) → getD code o 0 ≡ 0xFE → formOf afterFE (getD code (suc o) 0) ≡ some (bare i) → o + 2 ≤ length code

@@ -10,6 +10,7 @@ use borrow.Author.Tests.{ne-eqb, le-leb, lt-leb}
 use Rattle.model.specs.Answer.{pick, isNone}
 use Rattle.model.specs.Loading.{within}
 use Rattle.model.specs.Code.{Form, bare, short, long, double, near, far, second, Kept, _to_, among, kept, ofTwo, ofFive, ofNine, lengthOf, _is_, op, un, const, branches, loads, operators, objects, instructions, afterFE, formOf}
+use Rattle.code.specs.Insn.{Length, no-bytes, one-byte, two-bytes, five-bytes, nine-bytes}
 use Rattle.code.proofs.Table.{under, both, both-left, both-right}
 
 -- the bytes of an instruction of a form
@@ -47,17 +48,35 @@ unfolding sizeBy isNone
 a-size none h = h refl
 a-size (some f) h = tt
 
--- no instruction is longer than nine bytes
-pub at-most-nine : (b : ℕ) → lengthOf b < 10
+-- the lengths that there are
+pub a-length : (b : ℕ) → Length (lengthOf b)
 unfolding lengthOf pick
-at-most-nine b = cases (among ofTwo b) (among ofFive b) (among ofNine b) (among kept b)
+a-length b = cases (among ofTwo b) (among ofFive b) (among ofNine b) (among kept b)
   where
-    cases : (t f n k : Bool) → pick t 2 (pick f 5 (pick n 9 (pick k 1 0))) < 10
-    cases true f n k = omega arith
-    cases false true n k = omega arith
-    cases false false true k = omega arith
-    cases false false false true = omega arith
-    cases false false false false = omega arith
+    cases : (t f n k : Bool) → Length (pick t 2 (pick f 5 (pick n 9 (pick k 1 0))))
+    cases true f n k = two-bytes
+    cases false true n k = five-bytes
+    cases false false true k = nine-bytes
+    cases false false false true = one-byte
+    cases false false false false = no-bytes
+
+pub longest : {n : ℕ} → Length n → n < 10
+longest no-bytes = omega arith
+longest one-byte = omega arith
+longest two-bytes = omega arith
+longest five-bytes = omega arith
+longest nine-bytes = omega arith
+
+-- one that is none of the others
+pub nine : {n : ℕ} → Length n → 1 < n → (n ≡ 2 → ⊥) → (n ≡ 5 → ⊥) → n ≡ 9
+nine no-bytes h two five = absurd (omega arith)
+nine one-byte h two five = absurd (omega arith)
+nine two-bytes h two five = absurd (two refl)
+nine five-bytes h two five = absurd (five refl)
+nine nine-bytes h two five = refl
+
+pub at-most-nine : (b : ℕ) → lengthOf b < 10
+at-most-nine b = longest (a-length b)
 
 -- whether it is FE's form
 unfoldable pub isSecond : Option Form → Bool

@@ -6,4 +6,5 @@ pub mod Forms
 pub mod Targets
 pub mod Decoding
 pub mod Onward
+pub mod Sizes
 pub mod Reading

@@ -10,9 +10,6 @@ use lib.Dec.{ltb}
 use lib.ListN.{length, getD}
 use Rattle.model.specs.Answer.{mapOption}
 use Rattle.model.specs.Code.{Ins, Form, lengthOf, instructions, formOf, asForm, fullForm, andThen, Decoded, decode}
-use Rattle.code.specs.declared.insn.Insn.{Insn}
-use Rattle.code.specs.declared.insn.Read.the-variants.{Found}
-use Rattle.code.specs.Insn.{decoded}
 use Rattle.code.proofs.Forms.{not-kept}
 use Rattle.code.proofs.Decoding.{rest, past, said, whole, cut, unknown}
 
@@ -68,17 +65,3 @@ module _ (code : List ℕ) (o : ℕ) (d : Decoded) (e : decode code o ≡ some d
       go false h =
           let z : lengthOf (getD code o 0) ≡ 0 = omega (arith, ltb-false 0 (lengthOf (getD code o 0)) h) in
           absurd (clash d (sym (unknown code o inside (not-kept (getD code o 0) byte z)) ∙ e))
-
--- the same of what is read
-module _ (code : List ℕ) (o : ℕ) (i : Insn) (e : decoded (Found i) ≡ decode code o) where
-  pub read-inside : o < length code
-  unfolding decoded
-  read-inside = inside code o _ (sym e)
-
-  pub read-next : i .next ≡ o + lengthOf (getD code o 0)
-  unfolding decoded
-  read-next = next-is code o _ (sym e)
-
-  pub read-within : i .next ≤ length code
-  unfolding decoded
-  read-within = next-within code o _ (sym e)

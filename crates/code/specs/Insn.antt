@@ -1,12 +1,11 @@
 -- What an instruction as it is read means.
 use Prim.Native.Nat.{ℕ, _-_}
+use mathlib.Core.List.{List}
 use mathlib.Core.Option.{Option, none, some}
 use lib.Dec.{ltb}
 use Rattle.model.specs.Answer.{pick, orElse, mapOption}
-use Rattle.model.specs.Code.{Ins, plain, nop, jump, Form, bare, short, long, double, near, far, second, instructions, afterFE, formOf, target, Decoded}
+use Rattle.model.specs.Code.{Ins, plain, nop, jump, Form, bare, short, long, double, near, far, second, instructions, afterFE, formOf, target, Decoded, decode}
 use Rattle.code.specs.declared.insn.Insn.{Insn}
-use Rattle.code.specs.declared.insn.Read.{Read}
-use Rattle.code.specs.declared.insn.Read.the-variants.{Undecodable, Found}
 
 -- the form of an opcode of one byte, or of FE00 and the byte after FE
 unfoldable pub formBy : ℕ → Option Form
@@ -30,7 +29,14 @@ meant n next f = record { ins = withOperand n next f; next = next }
 unfoldable pub insOf : Insn → Ins
 insOf i = orElse (mapOption (withOperand (i .operand) (i .next)) (formBy (i .op))) (plain nop)
 
--- what reading finds
-unfoldable pub decoded : Read → Option Decoded
-decoded Undecodable = none
-decoded (Found i) = some (record { ins = insOf i; next = i .next })
+-- the lengths that instructions have, and 0
+pub data Length : ℕ → Type 0 where
+  no-bytes : Length 0
+  one-byte : Length 1
+  two-bytes : Length 2
+  five-bytes : Length 5
+  nine-bytes : Length 9
+
+-- the length of the instruction at an offset, 0 where none can be read
+unfoldable pub sizeAt : List ℕ → ℕ → ℕ
+sizeAt code o = orElse (mapOption (λ d. d .next - o) (decode code o)) 0

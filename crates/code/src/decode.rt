@@ -1,94 +1,84 @@
 // The instruction at an offset.
 ghost use mathlib.Core.Path.{_≡_};
-ghost use Prim.Native.Nat.{_-_, _^_, _<_};
-ghost use Rattle.model.specs.Answer.{mapOption};
-ghost use Rattle.model.specs.Code.{decode, formOf, afterFE};
+ghost use mathlib.Core.Option.{some};
+ghost use Prim.Native.Nat.{_+_, _-_, _≤_, _<_};
+ghost use lib.ListN.{length, getD};
+ghost use Rattle.model.specs.Code.{decode, lengthOf};
 ghost use Rattle.model.specs.Loading.{little};
-ghost use Rattle.code.specs.Insn.{decoded, meant};
+ghost use Rattle.code.specs.Insn.{Length, insOf, sizeAt};
 use super::insn::Insn;
-use super::insn::Read;
 use super::lengths::quick_length;
-use super::little::little1;
-use super::little::little4;
-use super::little::little8;
+use super::little::eight;
+use super::little::four;
+use super::little::one;
 
-// The bits of an operand among those of eight bytes, by the length of the instruction.
-fn mask(size: usize) -> u64
-    requires { ⌜ size < 10 ⌝ }
-    ensures { λ r. ⌜ r ≡ 256 ^ (size - 1) - 1 ⌝ }
-{
-    match size {
-        0 => 0,
-        1 => 0,
-        2 => 0xFF,
-        3 => 0xFFFF,
-        4 => 0xFFFFFF,
-        5 => 0xFFFFFFFF,
-        6 => 0xFFFFFFFFFF,
-        7 => 0xFFFFFFFFFFFF,
-        8 => 0xFFFFFFFFFFFFFF,
-        _ => 0xFFFFFFFFFFFFFFFF,
-    }
-}
-
-// The operand of an instruction of a size, from the part that begins just after its opcode.
+// The operand of an instruction of a size, from the part that begins just after its opcode and has all its bytes.
 fn operand(rest: &[u8], size: usize) -> u64
-    requires { ⌜ size < 10 ⌝ }
+    requires { ⌜ Length size ⌝ ∗ ⌜ size ≤ length (now rest) + 1 ⌝ }
     ensures { λ r. ⌜ r ≡ little (size - 1) (now (rest .entry)) ⌝ }
 {
-    if 8 <= rest.len() {
-        return little8(rest) & mask(size);
+    if size < 2 {
+        return 0;
     }
-    match size {
-        1 => 0,
-        2 => little1(rest),
-        5 => little4(rest),
-        _ => little8(rest) & mask(size),
+    if size == 2 {
+        return one(rest);
     }
+    if size == 5 {
+        return four(rest);
+    }
+    eight(rest)
 }
 
-// FE says nothing by itself: the next byte says which.
-fn second(rest: &[u8], next: usize) -> Read
-    ensures { λ r. ⌜ decoded r ≡ mapOption (meant 0 next) (formOf afterFE (little 1 (now (rest .entry)))) ⌝ }
+// The length by the first byte, but 0 where FE is followed by a byte that says nothing.
+fn kept_size(code: &[u8], at: usize, size: usize) -> usize
+    requires { ⌜ at < length (now code) ⌝ ∗ ⌜ size ≡ lengthOf (getD (now code) at 0) ⌝ ∗ ⌜ at + size ≤ length (now code) ⌝ }
+    ensures { λ r. ⌜ r ≡ sizeAt (now (code .entry)) at ⌝ ∗ ⌜ r ≤ size ⌝ }
 {
-    let b = little1(rest);
-    if b < 1 {
-        return Read::Undecodable;
+    if code[at] == 0xFE {
+        let second = at + 1;
+        let b = code[second];
+        if b < 1 {
+            return 0;
+        }
+        if 5 < b {
+            return 0;
+        }
+        return size;
     }
-    if 5 < b {
-        return Read::Undecodable;
-    }
-    Read::Found(Insn {
-        op: 0xFE00 + b as u16,
-        operand: 0,
-        next,
-    })
+    size
 }
 
-// The instruction at an offset of a method's code.
-pub fn read(code: &[u8], at: usize) -> Read
-    ensures { λ r. ⌜ decoded r ≡ decode (now (code .entry)) at ⌝ }
+// The length of the instruction at an offset, 0 where none can be read.
+pub fn size_at(code: &[u8], at: usize) -> usize
+    requires { ⌜ at < length (now code) ⌝ ∗ ⌜ length (now code) ≤ 1024 ⌝ }
+    ensures { λ r. ⌜ r ≡ sizeAt (now (code .entry)) at ⌝ ∗ ⌜ r ≤ 9 ⌝ ∗ ⌜ at + r ≤ length (now (code .entry)) ⌝ }
 {
-    if code.len() <= at {
-        return Read::Undecodable;
+    let size = quick_length(code[at]);
+    if code.len() < at + size {
+        return 0;
     }
+    kept_size(code, at, size)
+}
+
+// The instruction at an offset, of a length that is known: nothing is tested again.
+pub fn known(code: &[u8], at: usize, size: usize) -> Insn
+    requires { ⌜ size ≡ sizeAt (now code) at ⌝ ∗ ⌜ 0 < size ⌝ }
+    ensures { λ r. ⌜ decode (now (code .entry)) at ≡ some (record { ins = insOf r; next = r .next }) ⌝ ∗ ⌜ r .next ≡ at + size ⌝ }
+{
     let b = code[at];
-    let size = quick_length(b);
-    if size == 0 {
-        return Read::Undecodable;
-    }
-    if code.len() - at < size {
-        return Read::Undecodable;
-    }
     let from = at + 1;
     let rest = &code[from..];
     let next = at + size;
     if b == 0xFE {
-        return second(rest, next);
+        return Insn {
+            op: 0xFE00 + one(rest) as u16,
+            operand: 0,
+            next,
+        };
     }
-    Read::Found(Insn {
+    Insn {
         op: b as u16,
         operand: operand(rest, size),
         next,
-    })
+    }
 }

@@ -5,9 +5,3 @@ pub struct Insn {
     pub operand: u64,
     pub next: usize,
 }
-
-// What stands at an offset.
-pub enum Read {
-    Undecodable,
-    Found(Insn),
-}

@@ -12,6 +12,15 @@ fn wide(b: u8) -> u64
     b as u64
 }
 
+// A byte that is there.
+pub fn one(part: &[u8]) -> u64
+    requires { ⌜ 1 ≤ length (now part) ⌝ }
+    ensures { λ r. ⌜ r ≡ little 1 (now (part .entry)) ⌝ }
+    ensures below { λ r. ⌜ r < 0x100 ⌝ }
+{
+    wide(part[0])
+}
+
 pub fn little1(part: &[u8]) -> u64
     ensures { λ r. ⌜ r ≡ little 1 (now (part .entry)) ⌝ }
     ensures below { λ r. ⌜ r < 0x100 ⌝ }
@@ -19,7 +28,7 @@ pub fn little1(part: &[u8]) -> u64
     if part.len() == 0 {
         return 0;
     }
-    wide(part[0])
+    one(part)
 }
 
 pub fn little2(part: &[u8]) -> u64
@@ -33,7 +42,7 @@ pub fn little2(part: &[u8]) -> u64
 }
 
 // Four bytes that are there.
-fn four(part: &[u8]) -> u64
+pub fn four(part: &[u8]) -> u64
     requires { ⌜ 4 ≤ length (now part) ⌝ }
     ensures { λ r. ⌜ r ≡ little 4 (now (part .entry)) ⌝ }
     ensures below { λ r. ⌜ r < 0x100000000 ⌝ }
@@ -51,11 +60,19 @@ pub fn little4(part: &[u8]) -> u64
     four(part)
 }
 
+// Eight bytes that are there.
+pub fn eight(part: &[u8]) -> u64
+    requires { ⌜ 8 ≤ length (now part) ⌝ }
+    ensures { λ r. ⌜ r ≡ little 8 (now (part .entry)) ⌝ }
+{
+    four(part) + four(&part[4..]) * 0x100000000
+}
+
 pub fn little8(part: &[u8]) -> u64
     ensures { λ r. ⌜ r ≡ little 8 (now (part .entry)) ⌝ }
 {
     if part.len() < 8 {
         return little4(part) + little4(after(part, 4)) * 0x100000000;
     }
-    four(part) + four(&part[4..]) * 0x100000000
+    eight(part)
 }

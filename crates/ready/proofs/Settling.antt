@@ -28,11 +28,11 @@ use Rattle.ready.specs.Settled.{keptRow, keptChoice, settled, settledCho
 
 -- ---- Rows that are kept
 
-is-within : (n r : ℕ) → 0 < r → r ≤ n → within 1 n r ≡ true
+pub is-within : (n r : ℕ) → 0 < r → r ≤ n → within 1 n r ≡ true
 unfolding within
 is-within n r lo hi = rw (le-leb 1 r (omega arith), le-leb r n hi)
 
-in-range : (n r : ℕ) → within 1 n r ≡ true → (0 < r) × (r ≤ n)
+pub in-range : (n r : ℕ) → within 1 n r ≡ true → (0 < r) × (r ≤ n)
 unfolding within
 in-range n r e =
     let lo : 1 ≤ r = leb-true _ _ (and-l (leb 1 r) (leb r n) e) in

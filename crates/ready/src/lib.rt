@@ -2,7 +2,7 @@
 use cells::Derived;
 use tables::Loaded;
 ghost use mathlib.Core.Path.{_≡_};
-ghost use Prim.Native.Nat.{_<_};
+ghost use Prim.Native.Nat.{_<_, min};
 ghost use Rattle.model.specs.Loading.{within};
 ghost use Rattle.cells.specs.View.{span};
 ghost use Rattle.ready.specs.Settled.{keptRow, keptChoice, settled, settledChoices};
@@ -39,27 +39,32 @@ fn rows_kept(l: &[u8; 129], n: usize) -> [u8; 129]
     out
 }
 
-fn choice_kept(l: &[u8; 4257], classes: usize, methods: usize, i: usize) -> u8
-    requires { ⌜ i < 4257 ⌝ }
-    ensures { λ r. ⌜ r ≡ keptChoice (now (l .entry)) classes methods i ⌝ }
+// A number, or the most that it may be.
+fn at_most(n: usize, most: usize) -> usize
+    ensures { λ r. ⌜ r ≡ min n most ⌝ }
 {
-    if !is_row(classes, i / 129) {
-        return 0;
+    if most < n {
+        return most;
     }
-    if is_row(methods, i % 129) {
-        return l[i];
-    }
-    0
+    n
 }
 
+// Only the cells of rows that are there are written; the others are 0 from the start.
 fn choices_kept(l: &[u8; 4257], classes: usize, methods: usize) -> [u8; 4257]
     ensures { λ r. ⌜ r ≡ span (keptChoice (now (l .entry)) classes methods) 0 4257 ⌝ }
 {
     let mut out = [0u8; 4257];
-    let mut i: usize = 0;
-    while i < 4257 {
-        out[i] = choice_kept(l, classes, methods, i);
-        i += 1;
+    let rows = at_most(classes, 32);
+    let width = at_most(methods, 128);
+    let mut c: usize = 1;
+    while c <= rows {
+        let mut q: usize = 1;
+        while q <= width {
+            let i = c * 129 + q;
+            out[i] = l[i];
+            q += 1;
+        }
+        c += 1;
     }
     out
 }

@@ -576,10 +576,6 @@ no-high : (b : ℕ) → 256 ≤ b → formOf instructions b ≡ none
 unfolding low instructions loads branches operators objects _is_ op un const
 no-high b h = high-none instructions tt b h
 
-nop-by : (op n next : ℕ) → plain nop ≡ insBy 0 op n next
-unfolding insBy plainBy pick
-nop-by op n next = refl
-
 -- the instruction read is checked as its group's
 pub group-law : (i : Insn) → insFor (insOf i) ≡ insBy (groupOf (i .op)) (i .op) (i .operand) (i .next)
 unfolding insOf insOfForm formBy groupOf pick orElse mapOption formOf afterFE _is_ op withOperand insFor plainFor binaryFor relationFor insBy plainBy nothing rest-right

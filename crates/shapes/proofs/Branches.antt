@@ -11,7 +11,7 @@ use lib.ListN.{length, getD}
 use Rattle.model.specs.Answer.{Answer, bad, ok, _>>=_, guard, need, pick, onlyIf, mapOption}
 use Rattle.model.specs.Tables.{Ty}
 use Rattle.model.specs.Code.{Ins, Jump, always, iftrue, when, Relation, eq, lt, andThen, target}
-use Rattle.model.specs.Operators.{Kind, k32, k64, kF, reference, kind, kindNumber, same, flag, comparison, relationOf, relatesRef}
+use Rattle.model.specs.Operators.{Kind, k32, k64, kF, reference, kind, kindNumber, same, comparison, relationOf, relatesRef}
 use Rattle.model.specs.State.{pop2, tooFew, wrongType}
 use Rattle.model.specs.Check.{Shape, Site, starts, jumpEffect, testEffect}
 use Rattle.code.specs.Operand.{held}
@@ -104,28 +104,22 @@ land-past all n (some o) v e h b = rw (le-ltb o n (held-past n o v b (let z : he
 pub land-too-far : (all : List (Site Ins)) (n : ℕ) (t : Option ℕ) (v : ℕ) → v < n → 1024 ≤ v → n ≤ 1024 → Lands n 1024 (landing all n t)
 land-too-far all n t v a c b = absurd (omega arith)
 
-flag-one : (b : Bool) → flag b ≡ 1 → b ≡ true
-unfolding flag
-flag-one true e = refl
-flag-one false e = absurd (omega arith)
+pub nonzero : (x : ℕ) → (x ≡ 0 → ⊥) → 0 < x
+nonzero zero h = absurd (h refl)
+nonzero (suc x) h = omega arith
 
-flag-not : (b : Bool) → (flag b ≡ 1 → ⊥) → b ≡ false
-unfolding flag
-flag-not true e = absurd (e refl)
-flag-not false e = refl
-
-pub land-here : (all : List (Site Ins)) (l : List ℕ) (n : ℕ) (t : Option ℕ) (v : ℕ) → mapOption held t ≡ some v → v < n → n ≤ 1024 → Starts all n l → getD l v 0 ≡ 1 → Lands n v (landing all n t)
+pub land-here : (all : List (Site Ins)) (l : List ℕ) (n : ℕ) (t : Option ℕ) (v : ℕ) → mapOption held t ≡ some v → v < n → n ≤ 1024 → Starts all n l → (getD l v 0 ≡ 0 → ⊥) → Lands n v (landing all n t)
 unfolding Lands landing andThen mapOption onlyIf
 land-here all l n none v e h b m q = let z : _≡_ {A = ℕ} 0 1 = cc in absurd (omega arith)
 land-here all l n (some o) v e h b m q =
     let y : held o ≡ v = cc in
     let z : o ≡ v = held-inside n o v b y h in
-    rw (z, lt-ltb v n h, flag-one (starts all v) (sym (m v h) ∙ q)) (refl, h)
+    rw (z, lt-ltb v n h, sym (m v h) ∙ lt-ltb 0 (getD l v 0) (nonzero (getD l v 0) q)) (refl, h)
 
-pub land-inside : (all : List (Site Ins)) (l : List ℕ) (n : ℕ) (t : Option ℕ) (v : ℕ) → mapOption held t ≡ some v → v < n → n ≤ 1024 → Starts all n l → (getD l v 0 ≡ 1 → ⊥) → Lands n 1024 (landing all n t)
+pub land-inside : (all : List (Site Ins)) (l : List ℕ) (n : ℕ) (t : Option ℕ) (v : ℕ) → mapOption held t ≡ some v → v < n → n ≤ 1024 → Starts all n l → getD l v 0 ≡ 0 → Lands n 1024 (landing all n t)
 unfolding Lands landing andThen mapOption onlyIf
 land-inside all l n none v e h b m q = refl
 land-inside all l n (some o) v e h b m q =
     let y : held o ≡ v = cc in
     let z : o ≡ v = held-inside n o v b y h in
-    rw (z, lt-ltb v n h, flag-not (starts all v) (λ k. q (m v h ∙ k))) refl
+    rw (z, lt-ltb v n h, sym (m v h) ∙ le-ltb 0 (getD l v 0) (omega arith)) refl

@@ -8,7 +8,7 @@ use native.Mathlib.Omega.{arith}
 use borrow.Author.Tests.{lt-ltb, le-ltb, eq-eqb, ne-eqb, ltb-true, ltb-false, eqb-true, eqb-false}
 use lib.Dec.{ltb, eqb}
 use lib.ListN.{length, getD}
-use Rattle.model.specs.Answer.{Answer, bad, ok, _>>=_, need, guard, pick, onlyIf, mapOption, at, row}
+use Rattle.model.specs.Answer.{Answer, bad, ok, _>>=_, need, guard, pick, onlyIf, mapOption, isNone, at, row}
 use Rattle.model.specs.Tables.{Ty, int32, int64, F, null, class, byteOf, Sort, static, instance, virtual, constructor, initialiser, isSort, sortByte, Field, Method, Module, arguments, thisOf, due, asList}
 use Rattle.model.specs.Code.{Ins, Act, binary, number, add, whole, Whole, rem, shift, shl, compare, eq, lt, call, callvirt, newobj, castclass, ldfld, stfld, ldsfld, stsfld, andThen, rowOf, classOf, fieldOf, methodOf, callable, dispatched, constructs, operands}
 use Rattle.model.specs.State.{wrongType, pop2}
@@ -61,6 +61,12 @@ unfolding Typed
 a-type none t h l = absurd (omega arith)
 a-type (some u) t h l = record { type = u; is = refl; byte = h .0 }
 
+-- no operand where there is no type
+pub untyped : {A : Type 0} (f : Ty → A) (o : Option Ty) (t : ℕ) → Typed t o → ltb 255 t ≡ isNone (mapOption f o)
+unfolding Typed isNone mapOption
+untyped f none t h = lt-ltb 255 t h
+untyped f (some u) t h = let k : t < 256 = h .1 in le-ltb 255 t (omega arith)
+
 -- ---- Answers with an operand
 
 pub lacks : {A : Type 0} (P : Pool) (r : After) (f : A → Answer ℕ Shape) (o : Option A) → o ≡ none → (r .fault ≡ 12) × (r .shape ≡ 1) × (r .made ≡ P .made) → Fine P
@@ -75,6 +81,19 @@ has P Q r f o a B e q h = (rw (e, q) (h .0), h .1)
 -- the same under another name
 pub renamed : {A : Type 0} (P Q : Pool) (r : After) (f : A → Answer ℕ Shape) (o p : Option A) → o ≡ p → Takes Q r f p × Grown P Q → Takes Q r f o × Grown P Q
 renamed P Q r f o p e h = rw e h
+
+-- no operand where there is no row
+pub zero-none : {A : Type 0} (o : Option A) (r : ℕ) → (r ≡ 0 → o ≡ none) → ((r ≡ 0 → ⊥) → isNone o ≡ false) → eqb r 0 ≡ isNone o
+unfolding isNone
+zero-none o r x y = by (eqb r 0) refl
+  where
+    by : (b : Bool) → eqb r 0 ≡ b → eqb r 0 ≡ isNone o
+    by true q = q ∙ sym (ap isNone (x (eqb-true r 0 q)))
+    by false q = q ∙ sym (y (eqb-false r 0 q))
+
+pub some-there : {A : Type 0} (o : Option A) (a : A) → o ≡ some a → isNone o ≡ false
+unfolding isNone
+some-there o a e = ap isNone e
 
 -- ---- Rows
 
@@ -153,6 +172,9 @@ class-has M m t n r e q z =
     let a = one-among (M .parents) n (rowOf 2 t) e (λ w. z (q ∙ w)) in
     rw (class-is M t, a .named, ← q) (ap (λ (o : Option ℕ). mapOption Act.castclass (andThen o (λ p. some r))) (ap (row (M .parents)) q ∙ a .is))
 
+pub class-none : (M : Module) (m : Method) (t n r : ℕ) → n ≡ length (M .parents) → r ≡ rowAmong n (rowOf 2 t) → eqb r 0 ≡ isNone (operands M m (castclass t))
+class-none M m t n r e q = zero-none (operands M m (castclass t)) r (class-lacks M m t n r e q) (λ z. some-there (operands M m (castclass t)) (Act.castclass r) (class-has M m t n r e q z))
+
 -- ---- Fields
 
 flag-same : (s b : Bool) → eqb (flag b) (flag s) ≡ pick s b (not b)
@@ -223,6 +245,9 @@ module _ (M : Module) (n : ℕ) (owners flags types : List ℕ) (H : HeldFields 
         found = here h ∙ (ap (λ (b : Bool). onlyIf b (some (f x (one-field h .what)))) (p .0) ∙ ap (λ (k : ℕ). some (f k (one-field h .what))) (sym (p .1)));
       }
 
+  pub field-none : eqb r 0 ≡ isNone (fieldOf M s f t)
+  field-none = zero-none (fieldOf M s f t) r field-lacks (λ z. some-there (fieldOf M s f t) (f r (field-has z .field)) (field-has z .found))
+
 -- ---- Methods
 
 unfoldable pub actBy : ℕ → ℕ → Method → Act
@@ -278,6 +303,9 @@ module _ (M : Module) (m : Method) (n : ℕ) (owners sorts returns counts types 
         found = there h ∙ (ap (λ (b : Bool). onlyIf b (some (actBy w x (one-method h .what)))) (p .0) ∙ ap (λ (k : ℕ). some (actBy w k (one-method h .what))) (sym (p .1)));
       }
 
+  pub method-none : eqb r 0 ≡ isNone (operands M m (callBy w t))
+  method-none = zero-none (operands M m (callBy w t)) r method-lacks (λ z. some-there (operands M m (callBy w t)) (actBy w r (method-has z .method)) (method-has z .found))
+
 pub call-effect : (M : Module) (m : Method) (w r : ℕ) (k : Method) (S : Shape) → (w ≡ 2 → ⊥) → w < 3 → effect M m (actBy w r k) S ≡ calledEffect M m (arguments k) (k .returns) S
 unfolding actBy pick effect callEffect calledEffect due
 call-effect M m zero r k S h l = refl
@@ -329,12 +357,13 @@ field-30 M m g t e a b = let z : g ≡ 30 = other g e a b in rw z refl
             pos zero h = absurd (h refl)
             pos (suc r) h = omega arith
 
-pub field-low : (M : Module) (m : Method) (g t : ℕ) → 28 < g → g < 31 → fieldOf M false Act.ldfld t ≡ none → fieldOf M false Act.stfld t ≡ none → operands M m (fieldBy g t) ≡ none
-field-low M m g t a b x y = by (eqb g 29) refl
+-- what holds of both instructions on a field of an object
+pub field-low : (P : Option Act → Type 0) (M : Module) (m : Method) (g t : ℕ) → 28 < g → g < 31 → P (fieldOf M false Act.ldfld t) → P (fieldOf M false Act.stfld t) → P (operands M m (fieldBy g t))
+field-low P M m g t a b x y = by (eqb g 29) refl
   where
-    by : (c : Bool) → eqb g 29 ≡ c → operands M m (fieldBy g t) ≡ none
-    by true q = field-29 M m g t (eqb-true g 29 q) ∙ x
-    by false q = field-30 M m g t (eqb-false g 29 q) a b ∙ y
+    by : (c : Bool) → eqb g 29 ≡ c → P (operands M m (fieldBy g t))
+    by true q = subst P (sym (field-29 M m g t (eqb-true g 29 q))) x
+    by false q = subst P (sym (field-30 M m g t (eqb-false g 29 q) a b)) y
 
 pub field-31 : (M : Module) (m : Method) (g t : ℕ) → g ≡ 31 → operands M m (fieldBy g t) ≡ fieldOf M true Act.ldsfld t
 unfolding fieldBy pick operands
@@ -344,12 +373,13 @@ pub field-32 : (M : Module) (m : Method) (g t : ℕ) → 31 ≤ g → (g ≡ 31 
 unfolding fieldBy pick operands
 field-32 M m g t a e = rw (ne-eqb g 29 (λ z. absurd (omega arith)), ne-eqb g 30 (λ z. absurd (omega arith)), ne-eqb g 31 e) refl
 
-pub field-high : (M : Module) (m : Method) (g t : ℕ) → 31 ≤ g → fieldOf M true Act.ldsfld t ≡ none → fieldOf M true Act.stsfld t ≡ none → operands M m (fieldBy g t) ≡ none
-field-high M m g t a x y = by (eqb g 31) refl
+-- what holds of both on a static field
+pub field-high : (P : Option Act → Type 0) (M : Module) (m : Method) (g t : ℕ) → 31 ≤ g → P (fieldOf M true Act.ldsfld t) → P (fieldOf M true Act.stsfld t) → P (operands M m (fieldBy g t))
+field-high P M m g t a x y = by (eqb g 31) refl
   where
-    by : (c : Bool) → eqb g 31 ≡ c → operands M m (fieldBy g t) ≡ none
-    by true q = field-31 M m g t (eqb-true g 31 q) ∙ x
-    by false q = field-32 M m g t a (eqb-false g 31 q) ∙ y
+    by : (c : Bool) → eqb g 31 ≡ c → P (operands M m (fieldBy g t))
+    by true q = subst P (sym (field-31 M m g t (eqb-true g 31 q))) x
+    by false q = subst P (sym (field-32 M m g t a (eqb-false g 31 q))) y
 
 -- ---- Rows, as the code finds them
 
@@ -471,6 +501,21 @@ orders M m S = both-kinds S (plainEffect M m (binary (compare lt))) (compareEffe
 pub grouped : (P Q : Pool) (r : After) (M : Module) (m : Method) (S : Shape) (op n g k : ℕ) → g ≡ k → Takes Q r (λ a. effect M m a S) (operands M m (plainBy k op n)) × Grown P Q
     → Takes Q r (λ a. effect M m a S) (operands M m (plainBy g op n)) × Grown P Q
 grouped P Q r M m S op n g k e h = rw e h
+
+pub none-grouped : (M : Module) (m : Method) (op n g k : ℕ) (b : Bool) → g ≡ k → b ≡ isNone (operands M m (plainBy k op n)) → b ≡ isNone (operands M m (plainBy g op n))
+none-grouped M m op n g k b e h = rw e h
+
+-- an instruction on no argument and no local has its operands
+pub plain-there : (M : Module) (m : Method) (g op n : ℕ) → (g ≡ 8 → ⊥) → (g ≡ 9 → ⊥) → (g ≡ 10 → ⊥) → (g ≡ 11 → ⊥) → (g ≡ 12 → ⊥) → (g ≡ 13 → ⊥) → (g ≡ 14 → ⊥) → false ≡ isNone (operands M m (plainBy g op n))
+unfolding plainBy pick operands isNone
+plain-there M m g op n a b c d e f h =
+    rw (ne-eqb g 8 a, ne-eqb g 9 b, ne-eqb g 10 c, ne-eqb g 11 d, ne-eqb g 12 e, ne-eqb g 13 f, ne-eqb g 14 h)
+    (any (eqb g 0) _ _ refl (any (eqb g 1) _ _ refl (any (eqb g 2) _ _ refl (any (eqb g 3) _ _ refl (any (eqb g 4) _ _ refl (any (eqb g 5) _ _ refl (any (eqb g 6) _ _ refl (any (eqb g 7) _ _ refl
+    (any (eqb g 15) _ _ refl (any (eqb g 16) _ _ refl (any (eqb g 17) _ _ refl (any (eqb g 18) _ _ refl (any (eqb g 24) _ _ refl refl)))))))))))))
+  where
+    any : (t : Bool) (x y : Ins) → false ≡ isNone (operands M m x) → false ≡ isNone (operands M m y) → false ≡ isNone (operands M m (pick t x y))
+    any true x y p q = p
+    any false x y p q = q
 
 pub class-byte-is : (r : ℕ) → byteOf (class r) ≡ r + 32
 unfolding byteOf

@@ -317,25 +317,11 @@ module _ (M : Module) (m : Method) (all : List (Site Ins)) (F : Shapes) (o : ℕ
       went none t c = let u : r .fault ≡ 12 = t in absurd (omega arith)
       went (some a) t c = subst (λ (A : Answer ℕ Shapes). Went Q n v l A) (sym (visit-is M m F o a (i .next) n z)) (ends a (effect M m a (shapeAt F o)) t (c .0) (c .1))
 
-pub step-refused : (M : Module) (m : Method) (all : List (Site Ins)) (i : Insn) (Q : Pool) (g : ℕ) (r : After) → g ≡ groupOf (i .op) → g < 33
-    → Takes Q r (λ a. effect M m a []) (operands M m (insBy g (i .op) (i .operand) 0)) → eqb (r .fault) 12 ≡ isNone (actOf M m all (insOf i))
-unfolding Takes isNone Agrees
-step-refused M m all i Q g r e h t =
-    none-by-group M m all i g (eqb (r .fault) 12) e
-    (by (operands M m (insBy g (i .op) (i .operand) 0)) t
-    ∙ ap isNone (sym (ap (actOf M m all) (still g (i .op) (i .operand) (i .next) 0 h) ∙ acts)))
+pub quiet-refused : (M : Module) (m : Method) (all : List (Site Ins)) (i : Insn) (g : ℕ) (b : Bool) → g ≡ groupOf (i .op) → g < 33
+    → b ≡ isNone (operands M m (insBy g (i .op) (i .operand) 0)) → b ≡ isNone (actOf M m all (insOf i))
+quiet-refused M m all i g b e h t =
+    none-by-group M m all i g b e (t ∙ ap isNone (sym (ap (actOf M m all) (still g (i .op) (i .operand) (i .next) 0 h) ∙ acts (eqb g 3) refl)))
   where
-    acts : actOf M m all (insBy g (i .op) (i .operand) 0) ≡ operands M m (insBy g (i .op) (i .operand) 0)
-    acts = test (eqb g 3) refl
-      where
-        test : (c : Bool) → eqb g 3 ≡ c → actOf M m all (insBy g (i .op) (i .operand) 0) ≡ operands M m (insBy g (i .op) (i .operand) 0)
-        test true q = quiet-acts M m all false (insBy g (i .op) (i .operand) 0) (calm-quiet M m false (insBy g (i .op) (i .operand) 0) (step-ret g (i .op) (i .operand) 0 (eqb-true g 3 q)))
-        test false q = quiet-acts M m all true (insBy g (i .op) (i .operand) 0) (calm-quiet M m true (insBy g (i .op) (i .operand) 0) (step-calm g (i .op) (i .operand) 0 h (eqb-false g 3 q)))
-
-    effected : (a : Act) (A : Answer ℕ Shape) → Agrees Q r A → eqb (r .fault) 12 ≡ false
-    effected a (bad k) c = let u : r .fault ≡ k = c .0 in let v : 12 < k = c .1 in ne-eqb (r .fault) 12 (λ w. absurd (omega arith))
-    effected a (ok S) c = let u : r .fault ≡ 0 = c .0 in ne-eqb (r .fault) 12 (λ w. absurd (omega arith))
-
-    by : (x : Option Act) → Takes Q r (λ a. effect M m a []) x → eqb (r .fault) 12 ≡ isNone x
-    by none t = eq-eqb (r .fault) 12 t
-    by (some a) t = effected a (effect M m a []) t
+    acts : (c : Bool) → eqb g 3 ≡ c → actOf M m all (insBy g (i .op) (i .operand) 0) ≡ operands M m (insBy g (i .op) (i .operand) 0)
+    acts true q = quiet-acts M m all false (insBy g (i .op) (i .operand) 0) (calm-quiet M m false (insBy g (i .op) (i .operand) 0) (step-ret g (i .op) (i .operand) 0 (eqb-true g 3 q)))
+    acts false q = quiet-acts M m all true (insBy g (i .op) (i .operand) 0) (calm-quiet M m true (insBy g (i .op) (i .operand) 0) (step-calm g (i .op) (i .operand) 0 h (eqb-false g 3 q)))

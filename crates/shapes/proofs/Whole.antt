@@ -202,9 +202,8 @@ zeros-at zero i = refl
 zeros-at (suc n) zero = refl
 zeros-at (suc n) (suc i) = zeros-at n i
 
-pub ready-first : Ready (replicate 1024 0) (replicate 1024 0) (replicate 2048 0) (replicate 2048 0) (replicate 2048 0)
+pub ready-first : Ready (replicate 1024 0) (replicate 2048 0) (replicate 2048 0) (replicate 2048 0)
 ready-first = record {
-  starts-size = length-replicate {A = ℕ} 1024 0;
   found-size = length-replicate {A = ℕ} 1024 0;
   fine = record {
     tops = length-replicate {A = ℕ} 2048 0;

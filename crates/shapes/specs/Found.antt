@@ -8,7 +8,6 @@ use lib.ListN.{length, getD, set}
 use lib.Dec.{ltb}
 use Rattle.model.specs.Answer.{Answer, bad, ok, _>>=_, guard, keepIf, onlyIf}
 use Rattle.model.specs.Code.{Jump, Ins, andThen}
-use Rattle.model.specs.Operators.{flag}
 use Rattle.model.specs.Check.{Shape, Shapes, Site, starts, jumpFalls, jumpEffect, arrive}
 use Rattle.shapes.specs.Pool.{Pool, Shows}
 
@@ -23,9 +22,9 @@ pub record Kept (P : Pool) (n : ℕ) (F : Shapes) (l : List ℕ) : Type 0 where
   pub array : length l ≡ 1024
   pub at : (o : ℕ) → o < n → Stands P (getD l o 0) (getD F o none)
 
--- the array marks where instructions start
+-- the array is not 0 just where instructions start
 abbrev pub Starts : List (Site Ins) → ℕ → List ℕ → Type 0
-Starts all n l = (o : ℕ) → o < n → getD l o 0 ≡ flag (starts all o)
+Starts all n l = (o : ℕ) → o < n → ltb 0 (getD l o 0) ≡ starts all o
 
 -- whether an arrival brings the shape found
 unfoldable pub Met : Pool → ℕ → Bool → List ℕ → Answer ℕ Shapes → Type 0

@@ -13,7 +13,7 @@ use Rattle.model.specs.Check.{Shape, Shapes, Site, starts, targets, allStart, f
 use Rattle.shapes.specs.Pool.{Pool, pool, Fine}
 use Rattle.shapes.specs.Found.{Starts, WentBy}
 use Rattle.code.specs.declared.insn.Insn.{Insn}
-use Rattle.code.specs.Insn.{insOf}
+use Rattle.code.specs.Insn.{insOf, sizeAt}
 
 -- an instruction's act, if its operands and targets are right
 unfoldable pub actOf : Module → Method → List (Site Ins) → Ins → Option Act
@@ -38,18 +38,33 @@ pub record Cleared (n : ℕ) (l k : List ℕ) : Type 0 where
   pub size : length k ≡ length l
   pub zeros : (o : ℕ) → o < n → getD k o 0 ≡ 0
 
--- where decoding fails, or the code's length and every start marked
-unfoldable pub Scanned : ℕ → ℕ → List ℕ → Answer Refusal (List (Site Ins)) → Type 0
-Scanned n r l (bad f) = (refusal r 11 ≡ f) × (r < n)
-Scanned n r l (ok all) = (r ≡ n) × Starts all n l
+-- the array has the length of each instruction where it starts
+abbrev pub Sizes : List ℕ → List (Site Ins) → List ℕ → Type 0
+Sizes code all l = (o : ℕ) → o < length code → starts all o ≡ true → (getD l o 0 ≡ sizeAt code o) × (0 < getD l o 0)
+
+-- where decoding fails, or the code's length, every start marked and every length kept
+unfoldable pub Scanned : List ℕ → ℕ → List ℕ → Answer Refusal (List (Site Ins)) → Type 0
+Scanned code r l (bad f) = (refusal r 11 ≡ f) × (r < length code)
+Scanned code r l (ok all) = (r ≡ length code) × Starts all (length code) l × Sizes code all l
+
+-- what is decoded from an offset on
+pub record Rest (code : List ℕ) (at : ℕ) (left : List (Site Ins)) : Type 0 where
+  pub fuel : ℕ
+  pub enough : length code ≤ at + fuel
+  pub is : decodeFrom fuel code at ≡ ok left
+
+-- all is decoded from an offset on, and the array has the lengths
+pub record Reading (code l : List ℕ) (at : ℕ) : Type 0 where
+  pub left : List (Site Ins)
+  pub rest : Rest code at left
+  pub sizes : Sizes code left l
 
 -- nothing is found yet
 unfoldable pub nothing : ℕ → Shapes
 nothing n = replicate n none
 
 -- the arrays are ready for a method
-pub record Ready (starts found tops belows heights : List ℕ) : Type 0 where
-  pub starts-size : length starts ≡ 1024
+pub record Ready (found tops belows heights : List ℕ) : Type 0 where
   pub found-size : length found ≡ 1024
   pub fine : Fine (pool tops belows heights 2)
 

@@ -190,10 +190,10 @@ pub fn unary(
     ensures { λ r. ⌜ Small r made ⌝ ∗ ⌜ ((M : Module) (m : Method) → Effect (pool (now (tops .entry)) (now (belows .entry)) (now (heights .entry)) made) (pool (now (tops .exit)) (now (belows .exit)) (now (heights .exit)) (r .made)) r s (plainEffect M m (unary (unaryBy g)))) ⌝ }
 {
     let h = heights[s];
+    let t = converts(g, tops[s]);
     if h < 1 {
         return fault(13, made);
     }
-    let t = converts(g, tops[s]);
     if t == 0 {
         return fault(15, made);
     }

@@ -4,12 +4,12 @@ ghost use mathlib.Core.List.{List};
 ghost use Prim.Native.Nat.{ℕ, _+_, _*_, _≤_, _<_};
 ghost use lib.ListN.{length, getD};
 ghost use lib.Dec.{eqb};
-ghost use Rattle.model.specs.Answer.{pick, at};
-ghost use Rattle.model.specs.Tables.{Ty, Sort, sortByte};
-ghost use Rattle.model.specs.Code.{rowOf};
+ghost use Rattle.model.specs.Answer.{pick, at, isNone};
+ghost use Rattle.model.specs.Tables.{Ty, Sort, sortByte, Method, Module};
+ghost use Rattle.model.specs.Code.{rowOf, operands};
 ghost use Rattle.shapes.specs.Effects.{Types};
-ghost use Rattle.shapes.specs.Groups.{mayCall};
-ghost use Rattle.shapes.specs.Held.{Typed, rowAmong};
+ghost use Rattle.shapes.specs.Groups.{mayCall, plainBy};
+ghost use Rattle.shapes.specs.Held.{Typed, Own, rowAmong};
 use super::fit::wide;
 use code::operand::Row;
 use code::operand::row_of;
@@ -34,6 +34,31 @@ pub fn declared(
     }
     let at = row * 24 + from + i;
     wide(types[at])
+}
+
+// Whether an instruction is on an argument or local that the method does not have.
+pub fn undeclared(
+    arguments: &[u8; 129],
+    locals: &[u8; 129],
+    types: &[u8; 3096],
+    row: usize,
+    g: u8,
+    op: usize,
+    n: usize,
+) -> bool
+    requires { ⌜ row < 129 ⌝ ∗ ⌜ op < 65536 ⌝ }
+    ensures { λ r. ⌜ ((M : Module) (m : Method) (max due : ℕ) → Own m row max due (now (arguments .entry)) (now (locals .entry)) (now (types .entry)) → r ≡ isNone (operands M m (plainBy g op n))) ⌝ }
+{
+    match g {
+        8 => 255 < declared(arguments, types, row, 0, 8, (op + 2) % 4),
+        9 => 255 < declared(arguments, types, row, 0, 8, n),
+        10 => 255 < declared(arguments, types, row, 0, 8, n),
+        11 => 255 < declared(locals, types, row, 8, 16, (op + 2) % 4),
+        12 => 255 < declared(locals, types, row, 8, 16, (op + 2) % 4),
+        13 => 255 < declared(locals, types, row, 8, 16, n),
+        14 => 255 < declared(locals, types, row, 8, 16, n),
+        _ => false,
+    }
 }
 
 // The row of a token of a kind among n rows, 0 where it is none of them.

@@ -11,17 +11,23 @@ ghost use Rattle.code.specs.Insn.{insOf};
 ghost use Rattle.shapes.specs.Pool.{pool, Fine};
 ghost use Rattle.shapes.specs.Held.{Held};
 ghost use Rattle.shapes.specs.Found.{Starts, Kept};
-ghost use Rattle.shapes.specs.Fused.{actOf, onward, Tells, Late, Cleared, Scanned, Ready, Visits, Passing, nothing};
+ghost use Rattle.shapes.specs.Fused.{actOf, onward, Tells, Late, Cleared, Scanned, Rest, Reading, Ready, Visits, Passing, nothing};
+use super::fit::wide;
 use super::group::group;
+use super::operand::class_row;
+use super::operand::field_row;
+use super::operand::method_row;
+use super::operand::undeclared;
+use super::step::plain;
 use super::step::step;
 use super::visit::Visited;
+use super::visit::arrived;
 use super::visit::lands;
-use super::visit::onward;
 use super::visit::shape_at;
 use super::visit::visit_branch;
-use code::decode::read;
+use code::decode::known;
+use code::decode::size_at;
 use code::insn::Insn;
-use code::insn::Read;
 
 // No instruction starts, and no shape is found, at the first n offsets.
 fn clear(starts: &mut [u8; 1024], found: &mut [u16; 1024], n: usize)
@@ -36,27 +42,19 @@ fn clear(starts: &mut [u8; 1024], found: &mut [u16; 1024], n: usize)
     }
 }
 
-// Decodes from offset 0 and marks where instructions start: the offset where that fails, or the code's length.
+// Decodes from offset 0 and keeps the length of each instruction where it starts: the offset where that fails, or the code's length.
 fn scan(code: &[u8], starts: &mut [u8; 1024]) -> usize
-    requires { ⌜ length (now code) ≤ 1024 ⌝ }
-    ensures { λ r. ⌜ length (now (starts .exit)) ≡ length (now (starts .entry)) ⌝ ∗ ⌜ (length (now (starts .entry)) ≡ 1024 → ((o : ℕ) → o < length (now (code .entry)) → getD (now (starts .entry)) o 0 ≡ 0) → Scanned (length (now (code .entry))) r (now (starts .exit)) (decodeFrom (length (now (code .entry))) (now (code .entry)) 0)) ⌝ }
+    requires { ⌜ length (now code) ≤ 1024 ⌝ ∗ ⌜ length (now starts) ≡ 1024 ⌝ ∗ ⌜ ((o : ℕ) → o < length (now code) → getD (now starts) o 0 ≡ 0) ⌝ }
+    ensures { λ r. ⌜ length (now (starts .exit)) ≡ length (now (starts .entry)) ⌝ ∗ ⌜ Scanned (now (code .entry)) r (now (starts .exit)) (decodeFrom (length (now (code .entry))) (now (code .entry)) 0) ⌝ }
 {
-    let mut n = 0;
     let mut at = 0;
-    while n < code.len() {
-        if code.len() <= at {
-            return code.len();
+    while at < code.len() {
+        let size = size_at(code, at);
+        if size == 0 {
+            return at;
         }
-        match read(code, at) {
-            Read::Undecodable => {
-                return at;
-            }
-            Read::Found(i) => {
-                starts[at] = 1;
-                at = i.next;
-                n += 1;
-            }
-        }
+        starts[at] = size as u8;
+        at += size;
     }
     code.len()
 }
@@ -91,68 +89,70 @@ fn visit(
     requires { ⌜ made < 2048 ⌝ ∗ ⌜ row < 129 ⌝ ∗ ⌜ at < size ⌝ ∗ ⌜ size ≤ 1024 ⌝ }
     ensures { λ r. ⌜ r .made ≤ made + 1 ⌝ ∗ ⌜ ((M : Module) (m : Method) (all : List (Site Ins)) (F : Shapes) → Held M m classes fields methods row max (now (parents .entry)) (now («field_owners» .entry)) (now (flags .entry)) (now («field_types» .entry)) (now (owners .entry)) (now (sorts .entry)) (now (returns .entry)) (now (arguments .entry)) (now (locals .entry)) (now (types .entry)) → length (m .code) ≡ size → Starts all size (now (starts .entry)) → Fine (pool (now (tops .entry)) (now (belows .entry)) (now (heights .entry)) made) → Kept (pool (now (tops .entry)) (now (belows .entry)) (now (heights .entry)) made) size F (now (found .entry)) → Visits M m all F at i size (r .fault) (now (found .exit)) (pool (now (tops .exit)) (now (belows .exit)) (now (heights .exit)) (r .made))) ⌝ }
 {
-    let s = shape_at(found, at);
     let g = group(i.op);
+    let s = shape_at(found, at);
     let op = i.op as usize;
-    if 33 <= g {
-        return Visited {
-            fault: visit_branch(
-                starts,
-                tops,
-                belows,
-                heights,
-                found,
-                made,
-                size,
-                s,
-                g,
-                op,
-                i.next,
-                i.operand,
-            ),
+    if g < 25 {
+        let a = plain(
+            parents,
+            arguments,
+            locals,
+            types,
+            tops,
+            belows,
+            heights,
             made,
-        };
+            s,
+            row,
+            returns[row],
+            max,
+            g,
+            op,
+            i.operand as usize,
+        );
+        return arrived(tops, belows, heights, found, size, i, g, a);
     }
-    let a = step(
-        classes,
-        fields,
-        methods,
-        parents,
-        field_owners,
-        flags,
-        field_types,
-        owners,
-        sorts,
-        returns,
-        arguments,
-        locals,
-        types,
-        tops,
-        belows,
-        heights,
-        made,
-        s,
-        row,
-        max,
-        g,
-        op,
-        i.operand,
-    );
-    if a.fault != 0 {
-        return Visited {
-            fault: a.fault,
-            made: a.made,
-        };
-    }
-    if g == 3 {
-        return Visited {
-            fault: 0,
-            made: a.made,
-        };
+    if g < 33 {
+        let a = step(
+            classes,
+            fields,
+            methods,
+            parents,
+            field_owners,
+            flags,
+            field_types,
+            owners,
+            sorts,
+            returns,
+            arguments,
+            types,
+            tops,
+            belows,
+            heights,
+            made,
+            s,
+            max,
+            g,
+            i.operand,
+        );
+        return arrived(tops, belows, heights, found, size, i, g, a);
     }
     Visited {
-        fault: onward(tops, belows, heights, found, size, i.next, a.shape),
-        made: a.made,
+        fault: visit_branch(
+            starts,
+            tops,
+            belows,
+            heights,
+            found,
+            made,
+            size,
+            s,
+            g,
+            op,
+            i.next,
+            i.operand,
+        ),
+        made,
     }
 }
 
@@ -161,59 +161,37 @@ fn refused(
     classes: usize,
     fields: usize,
     methods: usize,
-    parents: &[u8; 33],
-    field_owners: &[u8; 129],
     flags: &[u8; 129],
-    field_types: &[u8; 129],
-    owners: &[u8; 129],
     sorts: &[u8; 129],
-    returns: &[u8; 129],
     arguments: &[u8; 129],
     locals: &[u8; 129],
     types: &[u8; 3096],
     starts: &[u8; 1024],
-    tops: &mut [u8; 2048],
-    belows: &mut [u16; 2048],
-    heights: &mut [u8; 2048],
     row: usize,
-    max: u8,
     size: usize,
     i: Insn,
 ) -> bool
     requires { ⌜ row < 129 ⌝ ∗ ⌜ size ≤ 1024 ⌝ }
-    ensures { λ r. ⌜ ((M : Module) (m : Method) (all : List (Site Ins)) → Held M m classes fields methods row max (now (parents .entry)) (now («field_owners» .entry)) (now (flags .entry)) (now («field_types» .entry)) (now (owners .entry)) (now (sorts .entry)) (now (returns .entry)) (now (arguments .entry)) (now (locals .entry)) (now (types .entry)) → length (m .code) ≡ size → Starts all size (now (starts .entry)) → Fine (pool (now (tops .entry)) (now (belows .entry)) (now (heights .entry)) 2) → (r ≡ isNone (actOf M m all (insOf i))) × Fine (pool (now (tops .exit)) (now (belows .exit)) (now (heights .exit)) 2)) ⌝ }
+    ensures { λ r. ⌜ ((M : Module) (m : Method) (all : List (Site Ins)) (max : ℕ) (parents fieldOwners fieldTypes owners returns : List ℕ) → Held M m classes fields methods row max parents fieldOwners (now (flags .entry)) fieldTypes owners (now (sorts .entry)) returns (now (arguments .entry)) (now (locals .entry)) (now (types .entry)) → length (m .code) ≡ size → Starts all size (now (starts .entry)) → r ≡ isNone (actOf M m all (insOf i))) ⌝ }
 {
     let g = group(i.op);
     let op = i.op as usize;
     if 33 <= g {
         return 1024 <= lands(starts, size, op, i.next, i.operand);
     }
-    let a = step(
-        classes,
-        fields,
-        methods,
-        parents,
-        field_owners,
-        flags,
-        field_types,
-        owners,
-        sorts,
-        returns,
-        arguments,
-        locals,
-        types,
-        tops,
-        belows,
-        heights,
-        2,
-        1,
-        row,
-        max,
-        g,
-        op,
-        i.operand,
-    );
-    a.fault == 12
+    if g < 25 {
+        return undeclared(arguments, locals, types, row, g, op, i.operand as usize);
+    }
+    if g < 28 {
+        return method_row(methods, sorts, i.operand, g - 25) == 0;
+    }
+    if g == 28 {
+        return class_row(classes, i.operand) == 0;
+    }
+    if g < 31 {
+        return field_row(fields, flags, i.operand, 0) == 0;
+    }
+    field_row(fields, flags, i.operand, 1) == 0
 }
 
 // The number of a method's fault, 0 where it passes, and its offset.
@@ -222,79 +200,49 @@ pub struct Told {
     pub offset: usize,
 }
 
-// An operand fault at or after an offset, n instructions passed, comes before a shape's fault.
+// An operand fault at or after an offset comes before a shape's fault.
 fn late(
     classes: usize,
     fields: usize,
     methods: usize,
-    parents: &[u8; 33],
-    field_owners: &[u8; 129],
     flags: &[u8; 129],
-    field_types: &[u8; 129],
-    owners: &[u8; 129],
     sorts: &[u8; 129],
-    returns: &[u8; 129],
     arguments: &[u8; 129],
     locals: &[u8; 129],
     types: &[u8; 3096],
     starts: &[u8; 1024],
-    tops: &mut [u8; 2048],
-    belows: &mut [u16; 2048],
-    heights: &mut [u8; 2048],
     row: usize,
-    max: u8,
     code: &[u8],
-    passed: usize,
     from: usize,
     number: u8,
     offset: usize,
 ) -> Told
-    requires { ⌜ row < 129 ⌝ ∗ ⌜ length (now code) ≤ 1024 ⌝ }
-    ensures { λ r. ⌜ ((M : Module) (m : Method) (all l : List (Site Ins)) → Held M m classes fields methods row max (now (parents .entry)) (now («field_owners» .entry)) (now (flags .entry)) (now («field_types» .entry)) (now (owners .entry)) (now (sorts .entry)) (now (returns .entry)) (now (arguments .entry)) (now (locals .entry)) (now (types .entry)) → m .code ≡ (now (code .entry)) → Starts all (length (now (code .entry))) (now (starts .entry)) → Fine (pool (now (tops .entry)) (now (belows .entry)) (now (heights .entry)) 2) → decodeFrom (length (now (code .entry)) - passed) (now (code .entry)) from ≡ ok l → Late (r .number) (r .offset) number offset (findOperands M m all l)) ⌝ }
+    requires { ⌜ row < 129 ⌝ ∗ ⌜ length (now code) ≤ 1024 ⌝ ∗ ⌜ Reading (now code) (now starts) from ⌝ }
+    ensures { λ r. ⌜ ((M : Module) (m : Method) (all l : List (Site Ins)) (max : ℕ) (parents fieldOwners fieldTypes owners returns : List ℕ) → Held M m classes fields methods row max parents fieldOwners (now (flags .entry)) fieldTypes owners (now (sorts .entry)) returns (now (arguments .entry)) (now (locals .entry)) (now (types .entry)) → m .code ≡ (now (code .entry)) → Starts all (length (now (code .entry))) (now (starts .entry)) → Rest (now (code .entry)) from l → Late (r .number) (r .offset) number offset (findOperands M m all l)) ⌝ }
 {
-    let mut n = passed;
     let mut at = from;
-    while n < code.len() {
-        if code.len() <= at {
-            return Told { number, offset };
+    while at < code.len() {
+        let i = known(code, at, wide(starts[at]));
+        if refused(
+            classes,
+            fields,
+            methods,
+            flags,
+            sorts,
+            arguments,
+            locals,
+            types,
+            starts,
+            row,
+            code.len(),
+            i,
+        ) {
+            return Told {
+                number: 12,
+                offset: at,
+            };
         }
-        match read(code, at) {
-            Read::Undecodable => {
-                return Told { number, offset };
-            }
-            Read::Found(i) => {
-                if refused(
-                    classes,
-                    fields,
-                    methods,
-                    parents,
-                    field_owners,
-                    flags,
-                    field_types,
-                    owners,
-                    sorts,
-                    returns,
-                    arguments,
-                    locals,
-                    types,
-                    starts,
-                    tops,
-                    belows,
-                    heights,
-                    row,
-                    max,
-                    code.len(),
-                    i,
-                ) {
-                    return Told {
-                        number: 12,
-                        offset: at,
-                    };
-                }
-                at = i.next;
-                n += 1;
-            }
-        }
+        at = i.next;
     }
     Told { number, offset }
 }
@@ -323,92 +271,65 @@ fn pass(
     max: u8,
     code: &[u8],
 ) -> Told
-    requires { ⌜ row < 129 ⌝ ∗ ⌜ length (now code) ≤ 1024 ⌝ }
+    requires { ⌜ row < 129 ⌝ ∗ ⌜ length (now code) ≤ 1024 ⌝ ∗ ⌜ Reading (now code) (now starts) 0 ⌝ }
     ensures { λ r. ⌜ ((M : Module) (m : Method) (all : List (Site Ins)) → Held M m classes fields methods row max (now (parents .entry)) (now («field_owners» .entry)) (now (flags .entry)) (now («field_types» .entry)) (now (owners .entry)) (now (sorts .entry)) (now (returns .entry)) (now (arguments .entry)) (now (locals .entry)) (now (types .entry)) → m .code ≡ (now (code .entry)) → Starts all (length (now (code .entry))) (now (starts .entry)) → decodeFrom (length (now (code .entry))) (now (code .entry)) 0 ≡ ok all → Fine (pool (now (tops .entry)) (now (belows .entry)) (now (heights .entry)) 2) → Kept (pool (now (tops .entry)) (now (belows .entry)) (now (heights .entry)) 2) (length (now (code .entry))) (nothing (length (now (code .entry)))) (now (found .entry)) → Tells (r .number) (r .offset) (onward M m all all (nothing (length (now (code .entry))))) × (r .number ≡ 0 → Passing (now (found .exit)) (pool (now (tops .exit)) (now (belows .exit)) (now (heights .exit)) 2))) ⌝ }
 {
-    let mut n = 0;
     let mut at = 0;
     let mut made = 2;
-    while n < code.len() {
-        if code.len() <= at {
+    while at < code.len() {
+        let i = known(code, at, wide(starts[at]));
+        let v = visit(
+            classes,
+            fields,
+            methods,
+            parents,
+            field_owners,
+            flags,
+            field_types,
+            owners,
+            sorts,
+            returns,
+            arguments,
+            locals,
+            types,
+            starts,
+            tops,
+            belows,
+            heights,
+            found,
+            made,
+            row,
+            max,
+            code.len(),
+            at,
+            i,
+        );
+        if v.fault == 12 {
             return Told {
-                number: 0,
-                offset: 0,
+                number: 12,
+                offset: at,
             };
         }
-        match read(code, at) {
-            Read::Undecodable => {
-                return Told {
-                    number: 0,
-                    offset: 0,
-                };
-            }
-            Read::Found(i) => {
-                let v = visit(
-                    classes,
-                    fields,
-                    methods,
-                    parents,
-                    field_owners,
-                    flags,
-                    field_types,
-                    owners,
-                    sorts,
-                    returns,
-                    arguments,
-                    locals,
-                    types,
-                    starts,
-                    tops,
-                    belows,
-                    heights,
-                    found,
-                    made,
-                    row,
-                    max,
-                    code.len(),
-                    at,
-                    i,
-                );
-                if v.fault == 12 {
-                    return Told {
-                        number: 12,
-                        offset: at,
-                    };
-                }
-                if v.fault != 0 {
-                    return late(
-                        classes,
-                        fields,
-                        methods,
-                        parents,
-                        field_owners,
-                        flags,
-                        field_types,
-                        owners,
-                        sorts,
-                        returns,
-                        arguments,
-                        locals,
-                        types,
-                        starts,
-                        tops,
-                        belows,
-                        heights,
-                        row,
-                        max,
-                        code,
-                        n + 1,
-                        i.next,
-                        v.fault,
-                        at,
-                    );
-                }
-                made = v.made;
-                at = i.next;
-                n += 1;
-            }
+        if v.fault != 0 {
+            return late(
+                classes,
+                fields,
+                methods,
+                flags,
+                sorts,
+                arguments,
+                locals,
+                types,
+                starts,
+                row,
+                code,
+                i.next,
+                v.fault,
+                at,
+            );
         }
+        made = v.made;
+        at = i.next;
     }
     Told {
         number: 0,
@@ -440,8 +361,8 @@ pub fn method(
     max: u8,
     code: &[u8],
 ) -> Told
-    requires { ⌜ row < 129 ⌝ }
-    ensures { λ r. ⌜ ((M : Module) (m : Method) → Held M m classes fields methods row max (now (parents .entry)) (now («field_owners» .entry)) (now (flags .entry)) (now («field_types» .entry)) (now (owners .entry)) (now (sorts .entry)) (now (returns .entry)) (now (arguments .entry)) (now (locals .entry)) (now (types .entry)) → m .code ≡ (now (code .entry)) → length (now (code .entry)) ≤ 1024 → Ready (now (starts .entry)) (now (found .entry)) (now (tops .entry)) (now (belows .entry)) (now (heights .entry)) → Tells (r .number) (r .offset) (checkMethod M m) × (r .number ≡ 0 → Ready (now (starts .exit)) (now (found .exit)) (now (tops .exit)) (now (belows .exit)) (now (heights .exit)))) ⌝ }
+    requires { ⌜ row < 129 ⌝ ∗ ⌜ length (now starts) ≡ 1024 ⌝ }
+    ensures { λ r. ⌜ length (now (starts .exit)) ≡ length (now (starts .entry)) ⌝ ∗ ⌜ ((M : Module) (m : Method) → Held M m classes fields methods row max (now (parents .entry)) (now («field_owners» .entry)) (now (flags .entry)) (now («field_types» .entry)) (now (owners .entry)) (now (sorts .entry)) (now (returns .entry)) (now (arguments .entry)) (now (locals .entry)) (now (types .entry)) → m .code ≡ (now (code .entry)) → length (now (code .entry)) ≤ 1024 → Ready (now (found .entry)) (now (tops .entry)) (now (belows .entry)) (now (heights .entry)) → Tells (r .number) (r .offset) (checkMethod M m) × (r .number ≡ 0 → Ready (now (found .exit)) (now (tops .exit)) (now (belows .exit)) (now (heights .exit)))) ⌝ }
 {
     if 1024 < code.len() {
         return Told {

@@ -2,7 +2,7 @@
 ghost use mathlib.Core.Path.{_≡_};
 ghost use mathlib.Core.Option.{Option};
 ghost use Prim.Native.Nat.{ℕ, _≤_, _<_};
-ghost use lib.ListN.{length, getD};
+ghost use lib.ListN.{length};
 ghost use Rattle.model.specs.Tables.{Ty, Method, Module};
 ghost use Rattle.model.specs.Code.{operands, castclass};
 ghost use Rattle.model.specs.Check.{pushes, popsOne, effect};
@@ -69,7 +69,7 @@ fn keep(
 }
 
 // Instructions on arguments and locals, and those without an operand at fault.
-fn plain(
+pub fn plain(
     parents: &[u8; 33],
     arguments: &[u8; 129],
     locals: &[u8; 129],
@@ -298,6 +298,7 @@ fn fields_of(
     store(parents, tops, belows, heights, made, s, t)
 }
 
+// Instructions with a token: groups 25 to 32.
 pub fn step(
     classes: usize,
     fields: usize,
@@ -310,41 +311,19 @@ pub fn step(
     sorts: &[u8; 129],
     returns: &[u8; 129],
     arguments: &[u8; 129],
-    locals: &[u8; 129],
     types: &[u8; 3096],
     tops: &mut [u8; 2048],
     belows: &mut [u16; 2048],
     heights: &mut [u8; 2048],
     made: usize,
     s: usize,
-    row: usize,
     max: u8,
     g: u8,
-    op: usize,
     n: u64,
 ) -> After
-    requires { ⌜ made < 2048 ⌝ ∗ ⌜ s < 2048 ⌝ ∗ ⌜ row < 129 ⌝ ∗ ⌜ op < 65536 ⌝ }
-    ensures { λ r. ⌜ Small r made ⌝ ∗ ⌜ ((M : Module) (m : Method) → HeldClasses M classes (now (parents .entry)) → HeldFields M fields (now («field_owners» .entry)) (now (flags .entry)) (now («field_types» .entry)) → HeldMethods M methods (now (owners .entry)) (now (sorts .entry)) (now (returns .entry)) (now (arguments .entry)) (now (types .entry)) → Own m row max (getD (now (returns .entry)) row 0) (now (arguments .entry)) (now (locals .entry)) (now (types .entry)) → g < 33 → Operand (pool (now (tops .entry)) (now (belows .entry)) (now (heights .entry)) made) (pool (now (tops .exit)) (now (belows .exit)) (now (heights .exit)) (r .made)) r s (effect M m) (operands M m (insBy g op n 0))) ⌝ }
+    requires { ⌜ made < 2048 ⌝ ∗ ⌜ s < 2048 ⌝ ∗ ⌜ 25 ≤ g ⌝ }
+    ensures { λ r. ⌜ Small r made ⌝ ∗ ⌜ ((M : Module) (m : Method) (op : ℕ) → m .maxStack ≡ max → HeldClasses M classes (now (parents .entry)) → HeldFields M fields (now («field_owners» .entry)) (now (flags .entry)) (now («field_types» .entry)) → HeldMethods M methods (now (owners .entry)) (now (sorts .entry)) (now (returns .entry)) (now (arguments .entry)) (now (types .entry)) → g < 33 → Operand (pool (now (tops .entry)) (now (belows .entry)) (now (heights .entry)) made) (pool (now (tops .exit)) (now (belows .exit)) (now (heights .exit)) (r .made)) r s (effect M m) (operands M m (insBy g op n 0))) ⌝ }
 {
-    if g < 25 {
-        return plain(
-            parents,
-            arguments,
-            locals,
-            types,
-            tops,
-            belows,
-            heights,
-            made,
-            s,
-            row,
-            returns[row],
-            max,
-            g,
-            op,
-            n as usize,
-        );
-    }
     if g < 28 {
         return calls(
             methods,

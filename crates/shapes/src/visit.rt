@@ -4,19 +4,22 @@ ghost use mathlib.Core.Bool.{true};
 ghost use mathlib.Core.Option.{none, some};
 ghost use mathlib.Core.List.{List, []};
 ghost use Prim.Native.Nat.{ℕ, _≤_, _<_};
-ghost use lib.ListN.{getD, set};
+ghost use lib.ListN.{length, getD, set};
 ghost use Rattle.model.specs.Answer.{mapOption};
-ghost use Rattle.model.specs.Code.{Ins};
-ghost use Rattle.model.specs.Check.{Shape, Shapes, Site, meet, jumpEffect, shapeAt};
+ghost use Rattle.model.specs.Tables.{Method, Module};
+ghost use Rattle.model.specs.Code.{Ins, operands};
+ghost use Rattle.model.specs.Check.{Shape, Shapes, Site, meet, effect, jumpEffect, shapeAt};
 ghost use Rattle.code.specs.Operand.{targetOf, held};
-ghost use Rattle.shapes.specs.Pool.{Pool, pool, Fine, Shows, Small, Effect};
-ghost use Rattle.shapes.specs.Groups.{jumpBy, targetBy};
+ghost use Rattle.shapes.specs.Pool.{Pool, pool, Fine, Shows, Small, Effect, Takes};
+ghost use Rattle.shapes.specs.Groups.{groupOf, insBy, jumpBy, targetBy};
 ghost use Rattle.shapes.specs.Found.{Kept, Starts, Met, Went, WentOn, WentBy, Lands, landing, goesOn, jumped};
+ghost use Rattle.shapes.specs.Fused.{Visits};
 use super::effect::test;
 use super::effect::when;
 use super::shape::After;
 use super::shape::fault;
 use super::shape::same;
+use code::insn::Insn;
 use code::operand::Target;
 use code::operand::far_target;
 use code::operand::near_target;
@@ -64,7 +67,7 @@ pub fn lands(starts: &[u8; 1024], size: usize, op: usize, next: usize, d: u64) -
             if 1024 <= t {
                 return 1024;
             }
-            if starts[t] == 1 {
+            if starts[t] != 0 {
                 return t;
             }
             1024
@@ -126,6 +129,38 @@ pub fn onward(
 pub struct Visited {
     pub fault: u8,
     pub made: usize,
+}
+
+// After the effect of an instruction that is no branch: its fault, nothing after ret (group 3), or the arrival at the next instruction.
+pub fn arrived(
+    tops: &[u8; 2048],
+    belows: &[u16; 2048],
+    heights: &[u8; 2048],
+    found: &mut [u16; 1024],
+    size: usize,
+    i: Insn,
+    g: u8,
+    a: After,
+) -> Visited
+    requires { ⌜ size ≤ 1024 ⌝ ∗ ⌜ a .shape < 2048 ⌝ }
+    ensures { λ r. ⌜ r .made ≡ a .made ⌝ ∗ ⌜ ((M : Module) (m : Method) (all : List (Site Ins)) (F : Shapes) (o : ℕ) → length (m .code) ≡ size → g ≡ groupOf (i .op) → g < 33 → Fine (pool (now (tops .entry)) (now (belows .entry)) (now (heights .entry)) (a .made)) → Kept (pool (now (tops .entry)) (now (belows .entry)) (now (heights .entry)) (a .made)) size (set F o (some (shapeAt F o))) (now (found .entry)) → Takes (pool (now (tops .entry)) (now (belows .entry)) (now (heights .entry)) (a .made)) a (λ x. effect M m x (shapeAt F o)) (operands M m (insBy g (i .op) (i .operand) 0)) → Visits M m all F o i size (r .fault) (now (found .exit)) (pool (now (tops .entry)) (now (belows .entry)) (now (heights .entry)) (r .made))) ⌝ }
+{
+    if a.fault != 0 {
+        return Visited {
+            fault: a.fault,
+            made: a.made,
+        };
+    }
+    if g == 3 {
+        return Visited {
+            fault: 0,
+            made: a.made,
+        };
+    }
+    Visited {
+        fault: onward(tops, belows, heights, found, size, i.next, a.shape),
+        made: a.made,
+    }
 }
 
 // A branch: its target, its effect, then the arrivals at the next instruction and at the target.

@@ -4,7 +4,7 @@ use Rattle.shapes.specs.Bounded.{Bounded}
 use Rattle.shapes.specs.Fused.{Ready}
 use Rattle.tables.specs.Holds.{Holds}
 use Rattle.model.specs.Tables.{Module}
-use lib.ListN.{length}
+use lib.ListN.{length, length-replicate}
 use borrow.Author.Needs.{needs}
 use native.Mathlib.Omega.{arith}
 use mathlib.Core.List.{List}
@@ -20,7 +20,7 @@ use Rattle.shapes.proofs.verdict_of.Reads as verdict-of-reads
 
 abbrev Inv-loop : tie.InvT-loop
 Inv-loop m code parents field-owners flags field-types owners sorts returns stacks offsets lengths arguments locals types starts₀ found₀ tops₀ belows₀ heights₀ row₀ starts found tops belows heights row =
-    (1 ≤ row) × (row ≤ 129) × (length (m .parents) ≡ 33) × ((M : Module) → Bounded M → Holds M code m → Checking M row × Ready starts found tops belows heights)
+    (1 ≤ row) × (row ≤ 129) × (length (m .parents) ≡ 33) × (length starts ≡ 1024) × ((M : Module) → Bounded M → Holds M code m → Checking M row × Ready found tops belows heights)
 
 abbrev μ-loop : tie.MeasureT-loop
 μ-loop m code parents field-owners flags field-types owners sorts returns stacks offsets lengths arguments locals types starts₀ found₀ tops₀ belows₀ heights₀ row₀ starts found tops belows heights row =
@@ -28,7 +28,7 @@ abbrev μ-loop : tie.MeasureT-loop
 
 loop-holds : tie.Need-loop-holds Inv-loop μ-loop
 loop-holds c =
-    (search needs, search needs, search needs, λ M B H. (checking-start M, ready-first))
+    (search needs, search needs, search needs, length-replicate {A = ℕ} 1024 0, λ M B H. (checking-start M, ready-first))
 
 returns : tie.Need-returns Inv-loop μ-loop
 returns c =
@@ -60,7 +60,7 @@ array-read-method c =
 
 method-requires : tie.Need-method-requires Inv-loop μ-loop
 method-requires c κs =
-    omega arith
+    (omega arith, c .before .before .before .before .before .before .before .before .before .before .before .before .before .before .before .before .before .before .before .loop .inv .3)
 
 verdict-of-requires : tie.Need-verdict-of-requires Inv-loop μ-loop
 verdict-of-requires c κs =
@@ -72,8 +72,8 @@ returns-2 c =
     let z : length (c .before .before .before .before .before .before .before .before .before .before .before .before .before .before .before .before .before .before .before .before .before .before .before .before .before .before .before .before .before .before .before .before .before .before .before .before .before .before .args .m .parents) ≡ 33 = c .before .before .before .before .before .before .before .before .before .before .before .before .before .before .before .before .before .before .before .before .before .before .before .loop .inv .2 in
     let w = the-row (M .methods) (c .before .before .before .before .before .before .before .before .before .before .before .before .before .before .before .before .before .before .before .before .before .before .before .loop .row) (c .before .before .before .before .before .before .before .before .before .before .before .before .before .before .before .before .before .before .before .before .before .before .before .loop .inv .0) (subst (λ (k : ℕ). c .before .before .before .before .before .before .before .before .before .before .before .before .before .before .before .before .before .before .before .before .before .before .before .loop .row ≤ k) (H .method-count) (c .before .before .before .before .before .before .before .before .before .before .before .before .before .before .before .before .before .before .before .before .before .if1 .taken)) in
     let q = held-code M (c .before .before .before .before .before .before .before .before .before .before .before .before .before .before .before .before .before .before .before .before .before .before .before .before .before .before .before .before .before .before .before .before .before .before .before .before .before .before .args .code .now) (c .before .before .before .before .before .before .before .before .before .before .before .before .before .before .before .before .before .before .before .before .before .before .before .before .before .before .before .before .before .before .before .before .before .before .before .before .before .before .args .m) B H z (c .before .before .before .before .before .before .before .before .before .before .before .before .before .before .before .before .before .before .before .before .before .before .before .loop .row) (w .method) (w .is) ∙ sym (c .before .before .before .before .before .before .before .before .before .before .before .before .before .before .before .before .before .before .before .part .ensures) in
-    let t = c .before .before .before .method .ensures M (w .method) (held M (c .before .before .before .before .before .before .before .before .before .before .before .before .before .before .before .before .before .before .before .before .before .before .before .before .before .before .before .before .before .before .before .before .before .before .before .before .before .before .args .code .now) (c .before .before .before .before .before .before .before .before .before .before .before .before .before .before .before .before .before .before .before .before .before .before .before .before .before .before .before .before .before .before .before .before .before .before .before .before .before .before .args .m) B H z (c .before .before .before .before .before .before .before .before .before .before .before .before .before .before .before .before .before .before .before .before .before .before .before .loop .row) (w .method) (w .is)) q (subst (λ (l : List ℕ). length l ≤ 1024) q (B .size (c .before .before .before .before .before .before .before .before .before .before .before .before .before .before .before .before .before .before .before .before .before .before .before .loop .row) (w .method) (w .is))) (c .before .before .before .before .before .before .before .before .before .before .before .before .before .before .before .before .before .before .before .before .before .before .before .loop .inv .3 M B H .1) in
-    let p = checking-fault M (c .before .before .before .before .before .before .before .before .before .before .before .before .before .before .before .before .before .before .before .before .before .before .before .loop .row) _ _ w (c .before .before .before .before .before .before .before .before .before .before .before .before .before .before .before .before .before .before .before .before .before .before .before .loop .inv .3 M B H .0) (t .0) (c .before .if3 .taken) in
+    let t = c .before .before .before .method .ensures .1 M (w .method) (held M (c .before .before .before .before .before .before .before .before .before .before .before .before .before .before .before .before .before .before .before .before .before .before .before .before .before .before .before .before .before .before .before .before .before .before .before .before .before .before .args .code .now) (c .before .before .before .before .before .before .before .before .before .before .before .before .before .before .before .before .before .before .before .before .before .before .before .before .before .before .before .before .before .before .before .before .before .before .before .before .before .before .args .m) B H z (c .before .before .before .before .before .before .before .before .before .before .before .before .before .before .before .before .before .before .before .before .before .before .before .loop .row) (w .method) (w .is)) q (subst (λ (l : List ℕ). length l ≤ 1024) q (B .size (c .before .before .before .before .before .before .before .before .before .before .before .before .before .before .before .before .before .before .before .before .before .before .before .loop .row) (w .method) (w .is))) (c .before .before .before .before .before .before .before .before .before .before .before .before .before .before .before .before .before .before .before .before .before .before .before .loop .inv .4 M B H .1) in
+    let p = checking-fault M (c .before .before .before .before .before .before .before .before .before .before .before .before .before .before .before .before .before .before .before .before .before .before .before .loop .row) _ _ w (c .before .before .before .before .before .before .before .before .before .before .before .before .before .before .before .before .before .before .before .before .before .before .before .loop .inv .4 M B H .0) (t .0) (c .before .if3 .taken) in
     c .verdict-of .ensures (p .1) (p .2) ∙ sym (p .0)
 
 add-row : tie.Need-add-row Inv-loop μ-loop
@@ -89,18 +89,19 @@ loop-again c = (
   omega arith,
   omega arith,
   c .before .before .before .before .before .before .before .before .before .before .before .before .before .before .before .before .before .before .before .before .before .before .loop .inv .2,
+  c .before .before .method .ensures .0 ∙ c .before .before .before .before .before .before .before .before .before .before .before .before .before .before .before .before .before .before .before .before .before .before .loop .inv .3,
   λ M B H.
       let z : length (c .before .before .before .before .before .before .before .before .before .before .before .before .before .before .before .before .before .before .before .before .before .before .before .before .before .before .before .before .before .before .before .before .before .before .before .before .before .args .m .parents) ≡ 33 = c .before .before .before .before .before .before .before .before .before .before .before .before .before .before .before .before .before .before .before .before .before .before .loop .inv .2 in
       let w = the-row (M .methods) (c .before .before .before .before .before .before .before .before .before .before .before .before .before .before .before .before .before .before .before .before .before .before .loop .row) (c .before .before .before .before .before .before .before .before .before .before .before .before .before .before .before .before .before .before .before .before .before .before .loop .inv .0) (subst (λ (k : ℕ). c .before .before .before .before .before .before .before .before .before .before .before .before .before .before .before .before .before .before .before .before .before .before .loop .row ≤ k) (H .method-count) (c .before .before .before .before .before .before .before .before .before .before .before .before .before .before .before .before .before .before .before .before .if1 .taken)) in
       let q = held-code M (c .before .before .before .before .before .before .before .before .before .before .before .before .before .before .before .before .before .before .before .before .before .before .before .before .before .before .before .before .before .before .before .before .before .before .before .before .before .args .code .now) (c .before .before .before .before .before .before .before .before .before .before .before .before .before .before .before .before .before .before .before .before .before .before .before .before .before .before .before .before .before .before .before .before .before .before .before .before .before .args .m) B H z (c .before .before .before .before .before .before .before .before .before .before .before .before .before .before .before .before .before .before .before .before .before .before .loop .row) (w .method) (w .is) ∙ sym (c .before .before .before .before .before .before .before .before .before .before .before .before .before .before .before .before .before .before .part .ensures) in
-      let t = c .before .before .method .ensures M (w .method) (held M (c .before .before .before .before .before .before .before .before .before .before .before .before .before .before .before .before .before .before .before .before .before .before .before .before .before .before .before .before .before .before .before .before .before .before .before .before .before .args .code .now) (c .before .before .before .before .before .before .before .before .before .before .before .before .before .before .before .before .before .before .before .before .before .before .before .before .before .before .before .before .before .before .before .before .before .before .before .before .before .args .m) B H z (c .before .before .before .before .before .before .before .before .before .before .before .before .before .before .before .before .before .before .before .before .before .before .loop .row) (w .method) (w .is)) q (subst (λ (l : List ℕ). length l ≤ 1024) q (B .size (c .before .before .before .before .before .before .before .before .before .before .before .before .before .before .before .before .before .before .before .before .before .before .loop .row) (w .method) (w .is))) (c .before .before .before .before .before .before .before .before .before .before .before .before .before .before .before .before .before .before .before .before .before .before .loop .inv .3 M B H .1) in
-      (checking-next M (c .before .before .before .before .before .before .before .before .before .before .before .before .before .before .before .before .before .before .before .before .before .before .loop .row) _ _ w (c .before .before .before .before .before .before .before .before .before .before .before .before .before .before .before .before .before .before .before .before .before .before .loop .inv .3 M B H .0) (c .before .before .before .before .before .before .before .before .before .before .before .before .before .before .before .before .before .before .before .before .before .before .loop .inv .0) (t .0) (c .if3 .left), t .1 (c .if3 .left)),
+      let t = c .before .before .method .ensures .1 M (w .method) (held M (c .before .before .before .before .before .before .before .before .before .before .before .before .before .before .before .before .before .before .before .before .before .before .before .before .before .before .before .before .before .before .before .before .before .before .before .before .before .args .code .now) (c .before .before .before .before .before .before .before .before .before .before .before .before .before .before .before .before .before .before .before .before .before .before .before .before .before .before .before .before .before .before .before .before .before .before .before .before .before .args .m) B H z (c .before .before .before .before .before .before .before .before .before .before .before .before .before .before .before .before .before .before .before .before .before .before .loop .row) (w .method) (w .is)) q (subst (λ (l : List ℕ). length l ≤ 1024) q (B .size (c .before .before .before .before .before .before .before .before .before .before .before .before .before .before .before .before .before .before .before .before .before .before .loop .row) (w .method) (w .is))) (c .before .before .before .before .before .before .before .before .before .before .before .before .before .before .before .before .before .before .before .before .before .before .loop .inv .4 M B H .1) in
+      (checking-next M (c .before .before .before .before .before .before .before .before .before .before .before .before .before .before .before .before .before .before .before .before .before .before .loop .row) _ _ w (c .before .before .before .before .before .before .before .before .before .before .before .before .before .before .before .before .before .before .before .before .before .before .loop .inv .4 M B H .0) (c .before .before .before .before .before .before .before .before .before .before .before .before .before .before .before .before .before .before .before .before .before .before .loop .inv .0) (t .0) (c .if3 .left), t .1 (c .if3 .left)),
 )
 
 returns-3 : tie.Need-returns-3 Inv-loop μ-loop
 unfolding faultOf
 returns-3 c =
-    λ M B H. sym (checking-end M (c .before .before .loop .row) (c .before .before .loop .inv .3 M B H .0) (c .before .before .loop .inv .0) (subst (λ (k : ℕ). k < c .before .before .loop .row) (H .method-count) (c .if1 .left)))
+    λ M B H. sym (checking-end M (c .before .before .loop .row) (c .before .before .loop .inv .4 M B H .0) (c .before .before .loop .inv .0) (subst (λ (k : ℕ). k < c .before .before .loop .row) (H .method-count) (c .if1 .left)))
 
 pub check-spec : {M : Type 1} → statement M
 check-spec =

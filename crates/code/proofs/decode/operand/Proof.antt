@@ -1,68 +1,46 @@
--- `operand` meets its contract: eight bytes with a mask, or just the bytes of the operand.
+-- `operand` meets its contract: just its bytes.
+use mathlib.Core.Path.{_≡_, sym, ap, _∙_}
+use mathlib.Core.List.{List}
 use Prim.Native.Nat.{ℕ, _-_}
-use mathlib.Core.Path.{sym, ap, _∙_}
 use native.Mathlib.Omega.{arith}
 use denote.Ref.{now}
 use Rattle.model.specs.Loading.{little}
-use Rattle.code.proofs.Bytes.{operand-of}
+use Rattle.code.proofs.Forms.{nine}
 use borrow.Author.Needs.{needs}
 use Rattle.code.proofs.decode.operand.Statement.{statement}
 use Rattle.code.proofs.decode.operand.Tie as tie
 
-little8-requires : tie.Need-little8-requires
-little8-requires c κs = search needs
-
-mask-requires : tie.Need-mask-requires
-mask-requires c κs = search needs
+bytes : (l : List ℕ) (s k r : ℕ) → s ≡ k → r ≡ little (k - 1) l → r ≡ little (s - 1) l
+bytes l s k r e q = q ∙ sym (ap (λ (n : ℕ). little (n - 1) l) e)
 
 returns : tie.Need-returns
+unfolding little
 returns c =
-    let s = c .before .before .before .before in
-    operand-of (s .args .size) _ _ (now (s .args .rest)) (λ i. omega (arith, c .before .before .before .shared-slice-known .given i)) (s .pre) (c .before .little8 .ensures) (c .mask .ensures)
+    let s = c .before .before .args .size in
+    let none : s - 1 ≡ 0 = omega (arith, c .if1 .taken) in
+    sym (ap (λ (n : ℕ). little n (now (c .before .before .args .rest))) none)
 
-little1-requires : tie.Need-little1-requires
-little1-requires c κs = search needs
-
-little4-requires : tie.Need-little4-requires
-little4-requires c κs = search needs
-
-little8-requires-2 : tie.Need-little8-requires-2
-little8-requires-2 c κs = search needs
-
-mask-requires-2 : tie.Need-mask-requires-2
-mask-requires-2 c κs = search needs
+one-requires : tie.Need-one-requires
+one-requires c κs = search needs
 
 returns-2 : tie.Need-returns-2
-unfolding little
-returns-2 c = sym (ap (λ (s : ℕ). little (s - 1) (now (c .before .before .before .args .rest))) (c .match .keys1))
+returns-2 c = bytes _ _ 2 _ (c .before .if2 .taken) (c .one .ensures .0)
+
+four-requires : tie.Need-four-requires
+four-requires c κs = search needs
 
 returns-3 : tie.Need-returns-3
-returns-3 c =
-    let s = c .before .before .before .before in
-    c .little1 .ensures .0 ∙ sym (ap (λ (k : ℕ). little (k - 1) (now (s .args .rest))) (c .before .match .keys2))
+returns-3 c = bytes _ _ 5 _ (c .before .if3 .taken) (c .four .ensures .0)
+
+eight-requires : tie.Need-eight-requires
+eight-requires c κs = omega (arith, nine (c .before .before .before .before .pre .0) (c .before .before .if1 .left) (c .before .if2 .left) (c .if3 .left))
 
 returns-4 : tie.Need-returns-4
 returns-4 c =
-    let s = c .before .before .before .before in
-    c .little4 .ensures .0 ∙ sym (ap (λ (k : ℕ). little (k - 1) (now (s .args .rest))) (c .before .match .keys3))
-
-returns-5 : tie.Need-returns-5
-returns-5 c =
     let s = c .before .before .before .before .before in
-    operand-of (s .args .size) _ _ (now (s .args .rest)) (λ i. omega (arith, c .before .before .before .before .shared-slice-known .given i)) (s .pre) (c .before .little82 .ensures) (c .mask2 .ensures)
+    bytes _ _ 9 _ (nine (s .pre .0) (c .before .before .before .if1 .left) (c .before .before .if2 .left) (c .before .if3 .left)) (c .eight .ensures)
 
 pub operand-spec : {M : Type 1} → statement M
 operand-spec =
     tie.close
-    (tie.spec
-    little8-requires
-    mask-requires
-    returns
-    little1-requires
-    little4-requires
-    little8-requires-2
-    mask-requires-2
-    returns-2
-    returns-3
-    returns-4
-    returns-5)
+    (tie.spec returns one-requires returns-2 four-requires returns-3 eight-requires returns-4)

@@ -1,9 +1,8 @@
--- `little8` meets its contract: eight bytes by four and four.
-use borrow.Author.Needs.{needs}
+-- `little8` meets its contract: eight bytes, or four and four.
 use mathlib.Core.Path.{refl}
 use denote.Ref.{now}
 use Rattle.code.proofs.Bytes.{joined}
-use Rattle.code.proofs.Parts.{to-end}
+use borrow.Author.Needs.{needs}
 use Rattle.code.proofs.little.little8.Statement.{statement}
 use Rattle.code.proofs.little.little8.Tie as tie
 
@@ -27,31 +26,11 @@ returns c =
     let l = now (c .before .before .before .before .before .args .part) in
     joined 4 4 0x100000000 l _ _ _ (c .before .before .little4 .ensures .0) (c .before .after .ensures) (c .little42 .ensures .0) refl
 
-four-requires : tie.Need-four-requires
-four-requires c κs = search needs
-
-sub-four : tie.Need-sub-four
-sub-four c = search needs
-
-part-four-start : tie.Need-part-four-start
-part-four-start c = search needs
-
-part-four-end : tie.Need-part-four-end
-part-four-end c = search needs
-
-four-requires-2 : tie.Need-four-requires-2
-four-requires-2 c κs = search needs
-
-mul-result-2 : tie.Need-mul-result-2
-mul-result-2 c = search needs
-
-add-result-2 : tie.Need-add-result-2
-add-result-2 c = search needs
+eight-requires : tie.Need-eight-requires
+eight-requires c κs = search needs
 
 returns-2 : tie.Need-returns-2
-returns-2 c =
-    let l = now (c .before .before .before .before .before .args .part) in
-    joined 4 4 0x100000000 l _ _ _ (c .before .before .four .ensures .0) (to-end 4 l) (c .four2 .ensures .0) refl
+returns-2 c = search needs
 
 pub little8-spec : {M : Type 1} → statement M
 little8-spec =
@@ -63,11 +42,5 @@ little8-spec =
     mul-result
     add-result
     returns
-    four-requires
-    sub-four
-    part-four-start
-    part-four-end
-    four-requires-2
-    mul-result-2
-    add-result-2
+    eight-requires
     returns-2)

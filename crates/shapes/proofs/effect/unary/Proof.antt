@@ -17,27 +17,24 @@ use Rattle.shapes.proofs.shape.below.Reads as below-reads
 use Rattle.shapes.proofs.shape.fault.Reads as fault-reads
 use Rattle.shapes.proofs.shape.put.Reads as put-reads
 
--- begin
 abbrev P0 : tie.Start → Pool
 P0 c = pool (c .args .tops .now) (c .args .belows .now) (c .args .heights .now) (c .args .made)
 
--- end
-
 element-copy-out-h : tie.Need-element-copy-out-h
 element-copy-out-h c = search needs
-
-fault-requires : tie.Need-fault-requires
-fault-requires c κs = search needs
-
-returns : tie.Need-returns
-returns c =
-    (search needs, λ M m f S w. refuses (P0 (c .before .before .before)) (c .fault .result) 13 (plainEffect M m (unary (unaryBy (c .before .before .before .args .g))) S) (few-1 (P0 (c .before .before .before)) (plainEffect M m (unary (unaryBy (c .before .before .before .args .g)))) (c .before .before .before .args .s) 13 (unary-few M m (unaryBy (c .before .before .before .args .g))) (c .before .if1 .taken) S w) (omega arith) (c .fault .ensures) f)
 
 element-copy-out-converts : tie.Need-element-copy-out-converts
 element-copy-out-converts c = search needs
 
 converts-requires : tie.Need-converts-requires
 converts-requires c κs = search needs
+
+fault-requires : tie.Need-fault-requires
+fault-requires c κs = search needs
+
+returns : tie.Need-returns
+returns c =
+    (search needs, λ M m f S w. refuses (P0 (c .before .before .before .before .before)) (c .fault .result) 13 (plainEffect M m (unary (unaryBy (c .before .before .before .before .before .args .g))) S) (few-1 (P0 (c .before .before .before .before .before)) (plainEffect M m (unary (unaryBy (c .before .before .before .before .before .args .g)))) (c .before .before .before .before .before .args .s) 13 (unary-few M m (unaryBy (c .before .before .before .before .before .args .g))) (c .before .if1 .taken) S w) (omega arith) (c .fault .ensures) f)
 
 fault-requires-2 : tie.Need-fault-requires-2
 fault-requires-2 c κs = search needs
@@ -46,8 +43,8 @@ returns-2 : tie.Need-returns-2
 returns-2 c = (
   search needs,
   λ M m f S w.
-      let o = one (P0 (c .before .before .before .before .before .before)) S (c .before .before .before .before .before .before .args .s) f (c .before .before .before .before .if1 .left) w in
-      refuses (P0 (c .before .before .before .before .before .before)) (c .fault2 .result) 15 (plainEffect M m (unary (unaryBy (c .before .before .before .before .before .before .args .g))) S) (unary-wrong M m (unaryBy (c .before .before .before .before .before .before .args .g)) (o .top) S (o .rest) (o .is) (sym (c .before .before .converts .ensures (o .top) (o .byte)) ∙ c .before .if2 .taken)) (omega arith) (c .fault2 .ensures) f,
+      let o = one (P0 (c .before .before .before .before .before .before)) S (c .before .before .before .before .before .before .args .s) f (c .before .before .if1 .left) w in
+      refuses (P0 (c .before .before .before .before .before .before)) (c .fault2 .result) 15 (plainEffect M m (unary (unaryBy (c .before .before .before .before .before .before .args .g))) S) (unary-wrong M m (unaryBy (c .before .before .before .before .before .before .args .g)) (o .top) S (o .rest) (o .is) (sym (c .before .before .before .converts .ensures (o .top) (o .byte)) ∙ c .before .if2 .taken)) (omega arith) (c .fault2 .ensures) f,
 )
 
 below-requires : tie.Need-below-requires
@@ -60,11 +57,11 @@ returns-3 : tie.Need-returns-3
 returns-3 c = (
   search needs,
   λ M m f S w.
-      let o = one (P0 (c .before .before .before .before .before .before .before .before .before .before .before)) S (c .before .before .before .before .before .before .before .before .before .before .before .args .s) f (c .before .before .before .before .before .before .before .before .before .if1 .left) w in
+      let o = one (P0 (c .before .before .before .before .before .before .before .before .before .before .before)) S (c .before .before .before .before .before .before .before .before .before .before .before .args .s) f (c .before .before .before .before .before .before .before .if1 .left) w in
       let u = unaryBy (c .before .before .before .before .before .before .before .before .before .before .before .args .g) in
       brings (P0 (c .before .before .before .before .before .before .before .before .before .before .before)) (c .put .result) _ _ _ (numeric (givenBy (unaryOf u (kind (o .top))))) (o .rest) (plainEffect M m (unary u) S) _ _ _
-      (unary-right M m u (o .top) S (o .rest) (o .is) (λ z. c .before .before .before .before .before .before .if2 .left (c .before .before .before .before .before .before .before .converts .ensures (o .top) (o .byte) ∙ z)))
-      (search needs) (c .put .ensures) (unary-byte u (kind (o .top)) (λ z. c .before .before .before .before .before .before .if2 .left (c .before .before .before .before .before .before .before .converts .ensures (o .top) (o .byte) ∙ z)) ∙ sym (c .before .before .before .before .before .before .before .converts .ensures (o .top) (o .byte))) (o .height) (o .below _ (c .before .before .before .before .below .ensures .1)) f,
+      (unary-right M m u (o .top) S (o .rest) (o .is) (λ z. c .before .before .before .before .before .before .if2 .left (c .before .before .before .before .before .before .before .before .converts .ensures (o .top) (o .byte) ∙ z)))
+      (search needs) (c .put .ensures) (unary-byte u (kind (o .top)) (λ z. c .before .before .before .before .before .before .if2 .left (c .before .before .before .before .before .before .before .before .converts .ensures (o .top) (o .byte) ∙ z)) ∙ sym (c .before .before .before .before .before .before .before .before .converts .ensures (o .top) (o .byte))) (o .height) (o .below _ (c .before .before .before .before .below .ensures .1)) f,
 )
 
 pub unary-spec : {M : Type 1} → statement M
@@ -72,10 +69,10 @@ unary-spec =
     tie.close
     (tie.spec
     element-copy-out-h
-    fault-requires
-    returns
     element-copy-out-converts
     converts-requires
+    fault-requires
+    returns
     fault-requires-2
     returns-2
     below-requires

@@ -1,11 +1,10 @@
-use Rattle.shapes.proofs.Loops.{Searching, searching-start, searching-end, searching-used, searching-stop, searching-fault, searching-next, read-found, read-none}
+use Rattle.shapes.proofs.Loops.{Searching, searching-start, searching-end, searching-fault, searching-next, reading-size, reading-some, reading-on, reading-next}
 use Rattle.shapes.specs.Found.{Starts}
+use Rattle.shapes.specs.Fused.{Rest, Reading}
 use Rattle.shapes.specs.Held.{Held}
-use Rattle.shapes.specs.Pool.{pool, Fine}
-use Rattle.model.specs.Check.{Site, decodeFrom}
+use Rattle.model.specs.Check.{Site}
 use Rattle.model.specs.Code.{Ins}
 use Rattle.model.specs.Tables.{Method, Module}
-use Rattle.model.specs.Answer.{ok}
 use lib.ListN.{length}
 use borrow.Author.Needs.{needs}
 use native.Mathlib.Omega.{arith}
@@ -16,67 +15,54 @@ use Rattle.shapes.proofs.pass.late.Statement.{statement}
 use Rattle.shapes.proofs.pass.late.Tie as tie
 use Rattle.shapes.proofs.pass.late.Reads as reads
 use Rattle.shapes.proofs.pass.late.Lts as lts
-use Rattle.code.proofs.decode.read.Reads as read-reads
+use Rattle.code.proofs.decode.known.Reads as known-reads
+use Rattle.shapes.proofs.fit.wide.Reads as wide-reads
 use Rattle.shapes.proofs.pass.refused.Reads as refused-reads
 
 abbrev Inv-loop : tie.InvT-loop
-Inv-loop classes fields methods parents field-owners flags field-types owners sorts returns arguments locals types starts tops₀ belows₀ heights₀ row max code passed from number offset n₀ at₀ tops belows heights n at =
-    (M : Module) (m : Method) (all l : List (Site Ins)) → Held M m classes fields methods row max parents field-owners flags field-types owners sorts returns arguments locals types → m .code ≡ code → Starts all (length code) starts → Fine (pool tops₀ belows₀ heights₀ 2) → decodeFrom (length code - passed) code from ≡ ok l → Fine (pool tops belows heights 2) × Searching M m all l code n at
+Inv-loop classes fields methods flags sorts arguments locals types starts row code from number offset at₀ at =
+    Reading code starts at × ((M : Module) (m : Method) (all l : List (Site Ins)) (max : ℕ) (ps fo ft ow re : List ℕ) → Held M m classes fields methods row max ps fo flags ft ow sorts re arguments locals types → m .code ≡ code → Starts all (length code) starts → Rest code from l → Searching M m all l code at)
 
 abbrev μ-loop : tie.MeasureT-loop
-μ-loop classes fields methods parents field-owners flags field-types owners sorts returns arguments locals types starts tops₀ belows₀ heights₀ row max code passed from number offset n₀ at₀ tops belows heights n at =
-    length code - n
+μ-loop classes fields methods flags sorts arguments locals types starts row code from number offset at₀ at =
+    length code - at
 
 loop-holds : tie.Need-loop-holds Inv-loop μ-loop
 loop-holds c =
-    λ M m all l H e st f q. (f, searching-start M m all l _ _ _ q)
+    (c .before .pre .1 .1, λ M m all l max ps fo ft ow re H e st q. searching-start M m all l _ _ q)
 
-returns : tie.Need-returns Inv-loop μ-loop
-returns c =
-    λ M m all l H e st f q. searching-end M m all l (c .before .before .before .before .args .code .now) (c .before .before .loop .n) (c .before .before .loop .at) (c .before .before .loop .inv M m all l H e st f q .1) _ _ (c .if1 .taken)
+element-copy-out-wide : tie.Need-element-copy-out-wide Inv-loop μ-loop
+element-copy-out-wide c =
+    omega (arith, c .before .before .before .pre .1 .0)
 
-read-requires : tie.Need-read-requires Inv-loop μ-loop
-read-requires c κs =
+wide-requires : tie.Need-wide-requires Inv-loop μ-loop
+wide-requires c κs =
     search needs
 
-enum-told : tie.Need-enum-told Inv-loop μ-loop
-enum-told c =
-    search needs
-
-returns-2 : tie.Need-returns-2 Inv-loop μ-loop
-returns-2 c =
-    λ M m all l H e st f q. absurd (searching-stop M m all l (c .before .before .before .before .before .before .before .args .code .now) (c .before .before .before .before .before .loop .n) (c .before .before .before .before .before .loop .at) (c .before .before .before .before .before .loop .inv M m all l H e st f q .1) (c .before .before .before .before .loop-test .taken) (c .before .before .before .if1 .left) (read-none _ _ (c .before .before .read .ensures) (c .enum-told .given .1)))
-
-enum-known-i : tie.Need-enum-known-i Inv-loop μ-loop
-enum-known-i c =
-    search needs
+known-requires : tie.Need-known-requires Inv-loop μ-loop
+known-requires c κs =
+    (reading-size _ _ _ (c .before .before .before .loop .inv .0) (c .before .before .loop-test .taken) _ (c .wide .ensures .0), reading-some _ _ _ (c .before .before .before .loop .inv .0) (c .before .before .loop-test .taken) _ (c .wide .ensures .0))
 
 refused-requires : tie.Need-refused-requires Inv-loop μ-loop
 refused-requires c κs =
-    c .before .before .before .before .before .before .before .before .before .before .before .pre
+    (c .before .before .before .before .before .before .pre .0, c .before .before .before .before .before .before .pre .1 .0)
 
-returns-3 : tie.Need-returns-3 Inv-loop μ-loop
-returns-3 c =
-    λ M m all l H e st f q. searching-fault M m all l (c .before .before .before .before .before .before .before .before .before .before .before .before .before .args .code .now) (c .before .before .before .before .before .before .before .before .before .before .before .loop .n) (c .before .before .before .before .before .before .before .before .before .before .before .loop .at) (c .before .before .before .before .before .before .before .before .before .before .before .loop .inv M m all l H e st f q .1) (c .before .before .before .before .before .before .before .before .before .before .loop-test .taken) (c .before .before .before .before .before .before .before .before .before .if1 .left) _ _ _ (read-found _ _ _ (c .before .before .before .before .before .before .before .before .read .ensures) (c .before .before .before .before .before .before .i .given .1)) (sym (c .if2 .taken) ∙ c .before .refused .ensures M m all H (ap length e) st (c .before .before .before .before .before .before .before .before .before .before .before .loop .inv M m all l H e st f q .0) .0)
-
-add-n : tie.Need-add-n Inv-loop μ-loop
-add-n c =
-    omega arith
+returns : tie.Need-returns Inv-loop μ-loop
+returns c =
+    λ M m all l max ps fo ft ow re H e st q. searching-fault M m all l (c .before .before .before .before .before .before .before .before .args .code .now) (c .before .before .before .before .before .before .loop .at) (c .before .before .before .before .before .before .loop .inv .1 M m all l max ps fo ft ow re H e st q) (c .before .before .before .before .before .loop-test .taken) _ (c .before .before .known .ensures .0) (reading-on _ _ _ (c .before .before .before .before .before .before .loop .inv .0) (c .before .before .before .before .before .loop-test .taken) _ (c .before .before .before .wide .ensures .0) _ (c .before .before .known .ensures .1)) _ _ (sym (c .if1 .taken) ∙ c .before .refused .ensures M m all max ps fo ft ow re H (ap length e) st)
 
 loop-less : tie.Need-loop-less Inv-loop μ-loop
 loop-less c =
-    omega arith
+    omega (arith, reading-on _ _ _ (c .before .before .before .before .before .before .loop .inv .0) (c .before .before .before .before .before .loop-test .taken) _ (c .before .before .before .wide .ensures .0) _ (c .before .before .known .ensures .1))
 
 loop-again : tie.Need-loop-again Inv-loop μ-loop
 loop-again c =
-    λ M m all l H e st f q. (
-      c .before .refused .ensures M m all H (ap length e) st (c .before .before .before .before .before .before .before .before .before .before .before .loop .inv M m all l H e st f q .0) .1,
-      searching-next M m all l (c .before .before .before .before .before .before .before .before .before .before .before .before .before .args .code .now) (c .before .before .before .before .before .before .before .before .before .before .before .loop .n) (c .before .before .before .before .before .before .before .before .before .before .before .loop .at) (c .before .before .before .before .before .before .before .before .before .before .before .loop .inv M m all l H e st f q .1) (c .before .before .before .before .before .before .before .before .before .before .loop-test .taken) (c .before .before .before .before .before .before .before .before .before .if1 .left) _ (read-found _ _ _ (c .before .before .before .before .before .before .before .before .read .ensures) (c .before .before .before .before .before .before .i .given .1)) (sym (c .if2 .left) ∙ c .before .refused .ensures M m all H (ap length e) st (c .before .before .before .before .before .before .before .before .before .before .before .loop .inv M m all l H e st f q .0) .0),
-    )
+    let w = reading-on _ _ _ (c .before .before .before .before .before .before .loop .inv .0) (c .before .before .before .before .before .loop-test .taken) _ (c .before .before .before .wide .ensures .0) _ (c .before .before .known .ensures .1) in
+    (reading-next _ _ _ _ (c .before .before .before .before .before .before .loop .inv .0) (c .before .before .before .before .before .loop-test .taken) (c .before .before .known .ensures .0) w, λ M m all l max ps fo ft ow re H e st q. searching-next M m all l (c .before .before .before .before .before .before .before .before .args .code .now) (c .before .before .before .before .before .before .loop .at) (c .before .before .before .before .before .before .loop .inv .1 M m all l max ps fo ft ow re H e st q) (c .before .before .before .before .before .loop-test .taken) _ (c .before .before .known .ensures .0) w (sym (c .if1 .left) ∙ c .before .refused .ensures M m all max ps fo ft ow re H (ap length e) st))
 
-returns-4 : tie.Need-returns-4 Inv-loop μ-loop
-returns-4 c =
-    λ M m all l H e st f q. searching-used M m all l (c .before .before .before .args .code .now) (c .before .loop .n) (c .before .loop .at) (c .before .loop .inv M m all l H e st f q .1) _ _ (c .loop-test .left)
+returns-2 : tie.Need-returns-2 Inv-loop μ-loop
+returns-2 c =
+    λ M m all l max ps fo ft ow re H e st q. searching-end M m all l (c .before .before .before .args .code .now) (c .before .loop .at) (c .before .loop .inv .1 M m all l max ps fo ft ow re H e st q) _ _ (c .loop-test .left)
 
 pub late-spec : {M : Type 1} → statement M
 late-spec =
@@ -85,14 +71,11 @@ late-spec =
     Inv-loop
     μ-loop
     loop-holds
-    returns
-    read-requires
-    enum-told
-    returns-2
-    enum-known-i
+    element-copy-out-wide
+    wide-requires
+    known-requires
     refused-requires
-    returns-3
-    add-n
+    returns
     loop-less
     loop-again
-    returns-4)
+    returns-2)

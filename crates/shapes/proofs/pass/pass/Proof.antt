@@ -1,5 +1,5 @@
-use Rattle.shapes.proofs.Loops.{Going, going-start, going-end, going-used, going-stop, after, going-fine, going-operand, going-next, going-left, going-fault, fine-two, read-found, read-none}
-use Rattle.shapes.specs.Fused.{nothing}
+use Rattle.shapes.proofs.Loops.{Going, going-start, going-end, after, going-operand, going-next, going-fault, reading-size, reading-some, reading-on, reading-next}
+use Rattle.shapes.specs.Fused.{Reading, nothing}
 use Rattle.shapes.specs.Found.{Starts, Kept}
 use Rattle.shapes.specs.Held.{Held}
 use Rattle.shapes.specs.Pool.{pool, Fine}
@@ -17,79 +17,78 @@ use Rattle.shapes.proofs.pass.pass.Statement.{statement}
 use Rattle.shapes.proofs.pass.pass.Tie as tie
 use Rattle.shapes.proofs.pass.pass.Reads as reads
 use Rattle.shapes.proofs.pass.pass.Lts as lts
-use Rattle.code.proofs.decode.read.Reads as read-reads
+use Rattle.code.proofs.decode.known.Reads as known-reads
+use Rattle.shapes.proofs.fit.wide.Reads as wide-reads
 use Rattle.shapes.proofs.pass.late.Reads as late-reads
 use Rattle.shapes.proofs.pass.visit.Reads as visit-reads
 
 abbrev Inv-loop : tie.InvT-loop
-Inv-loop classes fields methods parents field-owners flags field-types owners sorts returns arguments locals types starts tops₀ belows₀ heights₀ found₀ row max code n₀ at₀ made₀ tops belows heights found n at made =
-    (n ≤ length code) × (made ≤ n + 2) × ((M : Module) (m : Method) (all : List (Site Ins)) → Held M m classes fields methods row max parents field-owners flags field-types owners sorts returns arguments locals types → m .code ≡ code → Starts all (length code) starts → decodeFrom (length code) code 0 ≡ ok all → Fine (pool tops₀ belows₀ heights₀ 2) → Kept (pool tops₀ belows₀ heights₀ 2) (length code) (nothing (length code)) found₀ → Going M m all code (pool tops belows heights made) found n at)
+Inv-loop classes fields methods parents field-owners flags field-types owners sorts returns arguments locals types starts tops₀ belows₀ heights₀ found₀ row max code at₀ made₀ tops belows heights found at made =
+    (made ≤ at + 2) × Reading code starts at × ((M : Module) (m : Method) (all : List (Site Ins)) → Held M m classes fields methods row max parents field-owners flags field-types owners sorts returns arguments locals types → m .code ≡ code → Starts all (length code) starts → decodeFrom (length code) code 0 ≡ ok all → Fine (pool tops₀ belows₀ heights₀ 2) → Kept (pool tops₀ belows₀ heights₀ 2) (length code) (nothing (length code)) found₀ → Going M m all code (pool tops belows heights made) found at)
 
 abbrev μ-loop : tie.MeasureT-loop
-μ-loop classes fields methods parents field-owners flags field-types owners sorts returns arguments locals types starts tops₀ belows₀ heights₀ found₀ row max code n₀ at₀ made₀ tops belows heights found n at made =
-    length code - n
+μ-loop classes fields methods parents field-owners flags field-types owners sorts returns arguments locals types starts tops₀ belows₀ heights₀ found₀ row max code at₀ made₀ tops belows heights found at made =
+    length code - at
 
 loop-holds : tie.Need-loop-holds Inv-loop μ-loop
 loop-holds c =
-    (search needs, search needs, λ M m all H e st q f k. going-start M m all _ _ _ q f k)
+    (search needs, c .before .pre .1 .1, λ M m all H e st q f k. going-start M m all _ _ _ q f k)
 
-returns : tie.Need-returns Inv-loop μ-loop
-returns c =
-    λ M m all H e st q f k. going-end M m all (c .before .before .before .before .args .code .now) (pool (c .before .before .loop .tops) (c .before .before .loop .belows) (c .before .before .loop .heights) (c .before .before .loop .made)) (c .before .before .loop .found) (c .before .before .loop .n) (c .before .before .loop .at) (c .before .before .loop .inv .2 M m all H e st q f k) (c .if1 .taken)
+element-copy-out-wide : tie.Need-element-copy-out-wide Inv-loop μ-loop
+element-copy-out-wide c =
+    omega (arith, c .before .before .before .pre .1 .0)
 
-read-requires : tie.Need-read-requires Inv-loop μ-loop
-read-requires c κs =
+wide-requires : tie.Need-wide-requires Inv-loop μ-loop
+wide-requires c κs =
     search needs
 
-enum-told : tie.Need-enum-told Inv-loop μ-loop
-enum-told c =
-    search needs
-
-returns-2 : tie.Need-returns-2 Inv-loop μ-loop
-returns-2 c =
-    λ M m all H e st q f k. absurd (going-stop M m all (c .before .before .before .before .before .before .before .args .code .now) (pool (c .before .before .before .before .before .loop .tops) (c .before .before .before .before .before .loop .belows) (c .before .before .before .before .before .loop .heights) (c .before .before .before .before .before .loop .made)) (c .before .before .before .before .before .loop .found) (c .before .before .before .before .before .loop .n) (c .before .before .before .before .before .loop .at) (c .before .before .before .before .before .loop .inv .2 M m all H e st q f k) (c .before .before .before .before .loop-test .taken) (c .before .before .before .if1 .left) (read-none _ _ (c .before .before .read .ensures) (c .enum-told .given .1)))
-
-enum-known-i : tie.Need-enum-known-i Inv-loop μ-loop
-enum-known-i c =
-    search needs
+known-requires : tie.Need-known-requires Inv-loop μ-loop
+known-requires c κs =
+    (reading-size _ _ _ (c .before .before .before .loop .inv .1) (c .before .before .loop-test .taken) _ (c .wide .ensures .0), reading-some _ _ _ (c .before .before .before .loop .inv .1) (c .before .before .loop-test .taken) _ (c .wide .ensures .0))
 
 visit-requires : tie.Need-visit-requires Inv-loop μ-loop
 visit-requires c κs =
-    (omega arith, (c .before .before .before .before .before .before .before .before .before .before .before .before .pre .0, (c .before .before .before .before .before .before .before .before .if1 .left, c .before .before .before .before .before .before .before .before .before .before .before .before .pre .1)))
+    (omega (arith, c .before .before .before .before .before .before .before .before .loop .inv .0, c .before .before .before .before .before .before .before .loop-test .taken, c .before .before .before .before .before .before .before .before .before .before .pre .1 .0), (c .before .before .before .before .before .before .before .before .before .before .pre .0, (c .before .before .before .before .before .before .before .loop-test .taken, c .before .before .before .before .before .before .before .before .before .before .pre .1 .0)))
 
-returns-3 : tie.Need-returns-3 Inv-loop μ-loop
-returns-3 c =
-    λ M m all H e st q f k. (going-operand M m all (c .before .before .before .before .before .before .before .before .before .before .before .before .before .before .before .args .code .now) (pool (c .before .before .before .before .before .before .before .before .before .before .before .before .before .loop .tops) (c .before .before .before .before .before .before .before .before .before .before .before .before .before .loop .belows) (c .before .before .before .before .before .before .before .before .before .before .before .before .before .loop .heights) (c .before .before .before .before .before .before .before .before .before .before .before .before .before .loop .made)) (c .before .before .before .before .before .before .before .before .before .before .before .before .before .loop .found) (c .before .before .before .before .before .before .before .before .before .before .before .before .before .loop .n) (c .before .before .before .before .before .before .before .before .before .before .before .before .before .loop .at) (c .before .before .before .before .before .before .before .before .before .before .before .before .before .loop .inv .2 M m all H e st q f k) (c .before .before .before .before .before .before .before .before .before .before .before .before .loop-test .taken) (c .before .before .before .before .before .before .before .before .before .before .before .if1 .left) _ (read-found _ _ _ (c .before .before .before .before .before .before .before .before .before .before .read .ensures) (c .before .before .before .before .before .before .before .before .i .given .1)) _ _ _ (c .before .before .visit .ensures .1 M m all ((c .before .before .before .before .before .before .before .before .before .before .before .before .before .loop .inv .2 M m all H e st q f k) .shapes) H (ap length e) st ((c .before .before .before .before .before .before .before .before .before .before .before .before .before .loop .inv .2 M m all H e st q f k) .fine) ((c .before .before .before .before .before .before .before .before .before .before .before .before .before .loop .inv .2 M m all H e st q f k) .kept)) (c .if2 .taken), λ z. absurd (omega arith))
-
-add-late : tie.Need-add-late Inv-loop μ-loop
-add-late c =
-    omega arith
+returns : tie.Need-returns Inv-loop μ-loop
+returns c =
+    let w = reading-on _ _ _ (c .before .before .before .before .before .before .before .before .before .before .before .loop .inv .1) (c .before .before .before .before .before .before .before .before .before .before .loop-test .taken) _ (c .before .before .before .before .before .before .before .before .wide .ensures .0) _ (c .before .before .before .before .before .before .before .known .ensures .1) in
+    λ M m all H e st q f k.
+    let s = c .before .before .before .before .before .before .before .before .before .before .before .loop .inv .2 M m all H e st q f k in
+    (going-operand M m all (c .before .before .before .before .before .before .before .before .before .before .before .before .before .args .code .now) (pool (c .before .before .before .before .before .before .before .before .before .before .before .loop .tops) (c .before .before .before .before .before .before .before .before .before .before .before .loop .belows) (c .before .before .before .before .before .before .before .before .before .before .before .loop .heights) (c .before .before .before .before .before .before .before .before .before .before .before .loop .made)) (c .before .before .before .before .before .before .before .before .before .before .before .loop .found) (c .before .before .before .before .before .before .before .before .before .before .before .loop .at) s (c .before .before .before .before .before .before .before .before .before .before .loop-test .taken) _ (c .before .before .before .before .before .before .before .known .ensures .0) w _ _ _ (c .before .before .visit .ensures .1 M m all (s .shapes) H (ap length e) st (s .fine) (s .kept)) (c .if1 .taken), λ y. absurd (omega arith))
 
 late-requires : tie.Need-late-requires Inv-loop μ-loop
 late-requires c κs =
-    c .before .before .before .before .before .before .before .before .before .before .before .before .before .before .before .before .before .before .before .before .pre
+    let w = reading-on _ _ _ (c .before .before .before .before .before .before .before .before .before .before .before .before .before .loop .inv .1) (c .before .before .before .before .before .before .before .before .before .before .before .before .loop-test .taken) _ (c .before .before .before .before .before .before .before .before .before .before .wide .ensures .0) _ (c .before .before .before .before .before .before .before .before .before .known .ensures .1) in
+    (c .before .before .before .before .before .before .before .before .before .before .before .before .before .before .before .pre .0, (c .before .before .before .before .before .before .before .before .before .before .before .before .before .before .before .pre .1 .0, reading-next _ _ _ _ (c .before .before .before .before .before .before .before .before .before .before .before .before .before .loop .inv .1) (c .before .before .before .before .before .before .before .before .before .before .before .before .loop-test .taken) (c .before .before .before .before .before .before .before .before .before .known .ensures .0) w))
 
-returns-4 : tie.Need-returns-4 Inv-loop μ-loop
-returns-4 c =
+returns-2 : tie.Need-returns-2 Inv-loop μ-loop
+returns-2 c =
+    let w = reading-on _ _ _ (c .before .before .before .before .before .before .before .before .before .before .before .before .before .before .loop .inv .1) (c .before .before .before .before .before .before .before .before .before .before .before .before .before .loop-test .taken) _ (c .before .before .before .before .before .before .before .before .before .before .before .wide .ensures .0) _ (c .before .before .before .before .before .before .before .before .before .before .known .ensures .1) in
     λ M m all H e st q f k.
-    let p = going-fault M m all (c .before .before .before .before .before .before .before .before .before .before .before .before .before .before .before .before .before .before .before .before .before .args .code .now) (pool (c .before .before .before .before .before .before .before .before .before .before .before .before .before .before .before .before .before .before .before .loop .tops) (c .before .before .before .before .before .before .before .before .before .before .before .before .before .before .before .before .before .before .before .loop .belows) (c .before .before .before .before .before .before .before .before .before .before .before .before .before .before .before .before .before .before .before .loop .heights) (c .before .before .before .before .before .before .before .before .before .before .before .before .before .before .before .before .before .before .before .loop .made)) (c .before .before .before .before .before .before .before .before .before .before .before .before .before .before .before .before .before .before .before .loop .found) (c .before .before .before .before .before .before .before .before .before .before .before .before .before .before .before .before .before .before .before .loop .n) (c .before .before .before .before .before .before .before .before .before .before .before .before .before .before .before .before .before .before .before .loop .at) (c .before .before .before .before .before .before .before .before .before .before .before .before .before .before .before .before .before .before .before .loop .inv .2 M m all H e st q f k) (c .before .before .before .before .before .before .before .before .before .before .before .before .before .before .before .before .before .before .loop-test .taken) (c .before .before .before .before .before .before .before .before .before .before .before .before .before .before .before .before .before .if1 .left) _ (read-found _ _ _ (c .before .before .before .before .before .before .before .before .before .before .before .before .before .before .before .before .read .ensures) (c .before .before .before .before .before .before .before .before .before .before .before .before .before .before .i .given .1)) _ _ _ (c .before .before .before .before .before .before .before .before .visit .ensures .1 M m all ((c .before .before .before .before .before .before .before .before .before .before .before .before .before .before .before .before .before .before .before .loop .inv .2 M m all H e st q f k) .shapes) H (ap length e) st ((c .before .before .before .before .before .before .before .before .before .before .before .before .before .before .before .before .before .before .before .loop .inv .2 M m all H e st q f k) .fine) ((c .before .before .before .before .before .before .before .before .before .before .before .before .before .before .before .before .before .before .before .loop .inv .2 M m all H e st q f k) .kept)) _ _ (c .before .before .before .before .if3 .taken) (c .before .before .before .before .before .before .if2 .left) (c .late .ensures M m all (after M m all (c .before .before .before .before .before .before .before .before .before .before .before .before .before .before .before .before .before .before .before .before .before .args .code .now) (pool (c .before .before .before .before .before .before .before .before .before .before .before .before .before .before .before .before .before .before .before .loop .tops) (c .before .before .before .before .before .before .before .before .before .before .before .before .before .before .before .before .before .before .before .loop .belows) (c .before .before .before .before .before .before .before .before .before .before .before .before .before .before .before .before .before .before .before .loop .heights) (c .before .before .before .before .before .before .before .before .before .before .before .before .before .before .before .before .before .before .before .loop .made)) (c .before .before .before .before .before .before .before .before .before .before .before .before .before .before .before .before .before .before .before .loop .found) (c .before .before .before .before .before .before .before .before .before .before .before .before .before .before .before .before .before .before .before .loop .n) (c .before .before .before .before .before .before .before .before .before .before .before .before .before .before .before .before .before .before .before .loop .at) (c .before .before .before .before .before .before .before .before .before .before .before .before .before .before .before .before .before .before .before .loop .inv .2 M m all H e st q f k) (c .before .before .before .before .before .before .before .before .before .before .before .before .before .before .before .before .before .before .loop-test .taken) (c .before .before .before .before .before .before .before .before .before .before .before .before .before .before .before .before .before .if1 .left) _ (read-found _ _ _ (c .before .before .before .before .before .before .before .before .before .before .before .before .before .before .before .before .read .ensures) (c .before .before .before .before .before .before .before .before .before .before .before .before .before .before .i .given .1)) _ _ _ (c .before .before .before .before .before .before .before .before .visit .ensures .1 M m all ((c .before .before .before .before .before .before .before .before .before .before .before .before .before .before .before .before .before .before .before .loop .inv .2 M m all H e st q f k) .shapes) H (ap length e) st ((c .before .before .before .before .before .before .before .before .before .before .before .before .before .before .before .before .before .before .before .loop .inv .2 M m all H e st q f k) .fine) ((c .before .before .before .before .before .before .before .before .before .before .before .before .before .before .before .before .before .before .before .loop .inv .2 M m all H e st q f k) .kept)) .rest) H e st (fine-two _ (going-fine M m all (c .before .before .before .before .before .before .before .before .before .before .before .before .before .before .before .before .before .before .before .before .before .args .code .now) (pool (c .before .before .before .before .before .before .before .before .before .before .before .before .before .before .before .before .before .before .before .loop .tops) (c .before .before .before .before .before .before .before .before .before .before .before .before .before .before .before .before .before .before .before .loop .belows) (c .before .before .before .before .before .before .before .before .before .before .before .before .before .before .before .before .before .before .before .loop .heights) (c .before .before .before .before .before .before .before .before .before .before .before .before .before .before .before .before .before .before .before .loop .made)) (c .before .before .before .before .before .before .before .before .before .before .before .before .before .before .before .before .before .before .before .loop .found) (c .before .before .before .before .before .before .before .before .before .before .before .before .before .before .before .before .before .before .before .loop .n) (c .before .before .before .before .before .before .before .before .before .before .before .before .before .before .before .before .before .before .before .loop .at) (c .before .before .before .before .before .before .before .before .before .before .before .before .before .before .before .before .before .before .before .loop .inv .2 M m all H e st q f k) (c .before .before .before .before .before .before .before .before .before .before .before .before .before .before .before .before .before .before .loop-test .taken) (c .before .before .before .before .before .before .before .before .before .before .before .before .before .before .before .before .before .if1 .left) _ (read-found _ _ _ (c .before .before .before .before .before .before .before .before .before .before .before .before .before .before .before .before .read .ensures) (c .before .before .before .before .before .before .before .before .before .before .before .before .before .before .i .given .1)) _ _ _ (c .before .before .before .before .before .before .before .before .visit .ensures .1 M m all ((c .before .before .before .before .before .before .before .before .before .before .before .before .before .before .before .before .before .before .before .loop .inv .2 M m all H e st q f k) .shapes) H (ap length e) st ((c .before .before .before .before .before .before .before .before .before .before .before .before .before .before .before .before .before .before .before .loop .inv .2 M m all H e st q f k) .fine) ((c .before .before .before .before .before .before .before .before .before .before .before .before .before .before .before .before .before .before .before .loop .inv .2 M m all H e st q f k) .kept)))) (going-left M m all (c .before .before .before .before .before .before .before .before .before .before .before .before .before .before .before .before .before .before .before .before .before .args .code .now) (pool (c .before .before .before .before .before .before .before .before .before .before .before .before .before .before .before .before .before .before .before .loop .tops) (c .before .before .before .before .before .before .before .before .before .before .before .before .before .before .before .before .before .before .before .loop .belows) (c .before .before .before .before .before .before .before .before .before .before .before .before .before .before .before .before .before .before .before .loop .heights) (c .before .before .before .before .before .before .before .before .before .before .before .before .before .before .before .before .before .before .before .loop .made)) (c .before .before .before .before .before .before .before .before .before .before .before .before .before .before .before .before .before .before .before .loop .found) (c .before .before .before .before .before .before .before .before .before .before .before .before .before .before .before .before .before .before .before .loop .n) (c .before .before .before .before .before .before .before .before .before .before .before .before .before .before .before .before .before .before .before .loop .at) (c .before .before .before .before .before .before .before .before .before .before .before .before .before .before .before .before .before .before .before .loop .inv .2 M m all H e st q f k) (c .before .before .before .before .before .before .before .before .before .before .before .before .before .before .before .before .before .before .loop-test .taken) (c .before .before .before .before .before .before .before .before .before .before .before .before .before .before .before .before .before .if1 .left) _ (read-found _ _ _ (c .before .before .before .before .before .before .before .before .before .before .before .before .before .before .before .before .read .ensures) (c .before .before .before .before .before .before .before .before .before .before .before .before .before .before .i .given .1)) _ _ _ (c .before .before .before .before .before .before .before .before .visit .ensures .1 M m all ((c .before .before .before .before .before .before .before .before .before .before .before .before .before .before .before .before .before .before .before .loop .inv .2 M m all H e st q f k) .shapes) H (ap length e) st ((c .before .before .before .before .before .before .before .before .before .before .before .before .before .before .before .before .before .before .before .loop .inv .2 M m all H e st q f k) .fine) ((c .before .before .before .before .before .before .before .before .before .before .before .before .before .before .before .before .before .before .before .loop .inv .2 M m all H e st q f k) .kept)))) in
-    (p .0, λ z. absurd (p .1 z))
-
-add-n : tie.Need-add-n Inv-loop μ-loop
-add-n c =
-    omega arith
+    let s = c .before .before .before .before .before .before .before .before .before .before .before .before .before .before .loop .inv .2 M m all H e st q f k in
+    let v = c .before .before .before .before .before .visit .ensures .1 M m all (s .shapes) H (ap length e) st (s .fine) (s .kept) in
+    let n = after M m all (c .before .before .before .before .before .before .before .before .before .before .before .before .before .before .before .before .args .code .now) (pool (c .before .before .before .before .before .before .before .before .before .before .before .before .before .before .loop .tops) (c .before .before .before .before .before .before .before .before .before .before .before .before .before .before .loop .belows) (c .before .before .before .before .before .before .before .before .before .before .before .before .before .before .loop .heights) (c .before .before .before .before .before .before .before .before .before .before .before .before .before .before .loop .made)) (c .before .before .before .before .before .before .before .before .before .before .before .before .before .before .loop .found) (c .before .before .before .before .before .before .before .before .before .before .before .before .before .before .loop .at) s (c .before .before .before .before .before .before .before .before .before .before .before .before .before .loop-test .taken) _ (c .before .before .before .before .before .before .before .before .before .before .known .ensures .0) w _ _ _ v in
+    let p = going-fault M m all (c .before .before .before .before .before .before .before .before .before .before .before .before .before .before .before .before .args .code .now) (pool (c .before .before .before .before .before .before .before .before .before .before .before .before .before .before .loop .tops) (c .before .before .before .before .before .before .before .before .before .before .before .before .before .before .loop .belows) (c .before .before .before .before .before .before .before .before .before .before .before .before .before .before .loop .heights) (c .before .before .before .before .before .before .before .before .before .before .before .before .before .before .loop .made)) (c .before .before .before .before .before .before .before .before .before .before .before .before .before .before .loop .found) (c .before .before .before .before .before .before .before .before .before .before .before .before .before .before .loop .at) s (c .before .before .before .before .before .before .before .before .before .before .before .before .before .loop-test .taken) _ (c .before .before .before .before .before .before .before .before .before .before .known .ensures .0) w _ _ _ v _ _ (c .before .if2 .taken) (c .before .before .before .if1 .left) (c .late .ensures M m all (n .more) _ _ _ _ _ _ H e st (n .rest)) in
+    (p .0, λ y. absurd (p .1 y))
 
 loop-less : tie.Need-loop-less Inv-loop μ-loop
 loop-less c =
-    omega arith
+    omega (arith, reading-on _ _ _ (c .before .before .before .before .before .before .before .before .before .before .before .before .before .loop .inv .1) (c .before .before .before .before .before .before .before .before .before .before .before .before .loop-test .taken) _ (c .before .before .before .before .before .before .before .before .before .before .wide .ensures .0) _ (c .before .before .before .before .before .before .before .before .before .known .ensures .1))
 
 loop-again : tie.Need-loop-again Inv-loop μ-loop
 loop-again c =
-    (omega arith, omega (arith, c .before .before .before .before .visit .ensures .0), λ M m all H e st q f k. going-next M m all (c .before .before .before .before .before .before .before .before .before .before .before .before .before .before .before .before .before .args .code .now) (pool (c .before .before .before .before .before .before .before .before .before .before .before .before .before .before .before .loop .tops) (c .before .before .before .before .before .before .before .before .before .before .before .before .before .before .before .loop .belows) (c .before .before .before .before .before .before .before .before .before .before .before .before .before .before .before .loop .heights) (c .before .before .before .before .before .before .before .before .before .before .before .before .before .before .before .loop .made)) (c .before .before .before .before .before .before .before .before .before .before .before .before .before .before .before .loop .found) (c .before .before .before .before .before .before .before .before .before .before .before .before .before .before .before .loop .n) (c .before .before .before .before .before .before .before .before .before .before .before .before .before .before .before .loop .at) (c .before .before .before .before .before .before .before .before .before .before .before .before .before .before .before .loop .inv .2 M m all H e st q f k) (c .before .before .before .before .before .before .before .before .before .before .before .before .before .before .loop-test .taken) (c .before .before .before .before .before .before .before .before .before .before .before .before .before .if1 .left) _ (read-found _ _ _ (c .before .before .before .before .before .before .before .before .before .before .before .before .read .ensures) (c .before .before .before .before .before .before .before .before .before .before .i .given .1)) _ _ _ (c .before .before .before .before .visit .ensures .1 M m all ((c .before .before .before .before .before .before .before .before .before .before .before .before .before .before .before .loop .inv .2 M m all H e st q f k) .shapes) H (ap length e) st ((c .before .before .before .before .before .before .before .before .before .before .before .before .before .before .before .loop .inv .2 M m all H e st q f k) .fine) ((c .before .before .before .before .before .before .before .before .before .before .before .before .before .before .before .loop .inv .2 M m all H e st q f k) .kept)) (c .if3 .left))
+    let w = reading-on _ _ _ (c .before .before .before .before .before .before .before .before .before .before .before .before .before .loop .inv .1) (c .before .before .before .before .before .before .before .before .before .before .before .before .loop-test .taken) _ (c .before .before .before .before .before .before .before .before .before .before .wide .ensures .0) _ (c .before .before .before .before .before .before .before .before .before .known .ensures .1) in (
+      omega (arith, c .before .before .before .before .visit .ensures .0, c .before .before .before .before .before .before .before .before .before .before .before .before .before .loop .inv .0),
+      reading-next _ _ _ _ (c .before .before .before .before .before .before .before .before .before .before .before .before .before .loop .inv .1) (c .before .before .before .before .before .before .before .before .before .before .before .before .loop-test .taken) (c .before .before .before .before .before .before .before .before .before .known .ensures .0) w,
+      λ M m all H e st q f k.
+          let s = c .before .before .before .before .before .before .before .before .before .before .before .before .before .loop .inv .2 M m all H e st q f k in
+          going-next M m all (c .before .before .before .before .before .before .before .before .before .before .before .before .before .before .before .args .code .now) (pool (c .before .before .before .before .before .before .before .before .before .before .before .before .before .loop .tops) (c .before .before .before .before .before .before .before .before .before .before .before .before .before .loop .belows) (c .before .before .before .before .before .before .before .before .before .before .before .before .before .loop .heights) (c .before .before .before .before .before .before .before .before .before .before .before .before .before .loop .made)) (c .before .before .before .before .before .before .before .before .before .before .before .before .before .loop .found) (c .before .before .before .before .before .before .before .before .before .before .before .before .before .loop .at) s (c .before .before .before .before .before .before .before .before .before .before .before .before .loop-test .taken) _ (c .before .before .before .before .before .before .before .before .before .known .ensures .0) w _ _ _ (c .before .before .before .before .visit .ensures .1 M m all (s .shapes) H (ap length e) st (s .fine) (s .kept)) (c .if2 .left),
+    )
 
-returns-5 : tie.Need-returns-5 Inv-loop μ-loop
-returns-5 c =
-    λ M m all H e st q f k. going-used M m all (c .before .before .before .args .code .now) (pool (c .before .loop .tops) (c .before .loop .belows) (c .before .loop .heights) (c .before .loop .made)) (c .before .loop .found) (c .before .loop .n) (c .before .loop .at) (c .before .loop .inv .2 M m all H e st q f k) (c .loop-test .left)
+returns-3 : tie.Need-returns-3 Inv-loop μ-loop
+returns-3 c =
+    λ M m all H e st q f k. going-end M m all (c .before .before .before .args .code .now) (pool (c .before .loop .tops) (c .before .loop .belows) (c .before .loop .heights) (c .before .loop .made)) (c .before .loop .found) (c .before .loop .at) (c .before .loop .inv .2 M m all H e st q f k) (c .loop-test .left)
 
 pub pass-spec : {M : Type 1} → statement M
 pass-spec =
@@ -98,17 +97,13 @@ pass-spec =
     Inv-loop
     μ-loop
     loop-holds
-    returns
-    read-requires
-    enum-told
-    returns-2
-    enum-known-i
+    element-copy-out-wide
+    wide-requires
+    known-requires
     visit-requires
-    returns-3
-    add-late
+    returns
     late-requires
-    returns-4
-    add-n
+    returns-2
     loop-less
     loop-again
-    returns-5)
+    returns-3)

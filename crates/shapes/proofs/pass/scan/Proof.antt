@@ -1,54 +1,47 @@
-use Rattle.shapes.proofs.Loops.{Scanning, scanning-start, scanning-next, scanning-end, scanning-used, scanning-stop, read-found, read-none}
-use lib.ListN.{length, getD, length-set}
-use borrow.Author.Needs.{needs}
+use Rattle.shapes.proofs.Loops.{Scanning, scanning-start, scanning-next, scanning-end, scanning-stop}
+use Rattle.shapes.proofs.Branches.{nonzero}
+use Rattle.code.proofs.Sizes.{no-size}
+use lib.ListN.{length}
 use native.Mathlib.Omega.{arith}
-use mathlib.Core.Path.{_≡_, refl, _∙_}
+use mathlib.Core.Path.{_≡_, sym, _∙_}
 use Prim.Native.Nat.{ℕ, _+_, _-_, _≤_, _<_}
 use Rattle.shapes.proofs.pass.scan.Statement.{statement}
 use Rattle.shapes.proofs.pass.scan.Tie as tie
 use Rattle.shapes.proofs.pass.scan.Reads as reads
 use Rattle.shapes.proofs.pass.scan.Lts as lts
-use Rattle.code.proofs.decode.read.Reads as read-reads
+use Rattle.code.proofs.decode.size_at.Reads as size-at-reads
 
 abbrev Inv-loop : tie.InvT-loop
-Inv-loop code starts₀ n₀ at₀ starts n at =
-    (n ≤ length code) × (length starts ≡ length starts₀) × (length starts₀ ≡ 1024 → ((o : ℕ) → o < length code → getD starts₀ o 0 ≡ 0) → Scanning code starts n at)
+Inv-loop code starts₀ at₀ starts at =
+    Scanning code starts at
 
 abbrev μ-loop : tie.MeasureT-loop
-μ-loop code starts₀ n₀ at₀ starts n at =
-    length code - n
+μ-loop code starts₀ at₀ starts at =
+    length code - at
 
 loop-holds : tie.Need-loop-holds Inv-loop μ-loop
 loop-holds c =
-    (search needs, refl, λ e z. scanning-start _ _ e z)
+    scanning-start _ _ (c .before .pre .1 .0) (c .before .pre .1 .1)
+
+size-at-requires : tie.Need-size-at-requires Inv-loop μ-loop
+size-at-requires c κs =
+    (c .loop-test .taken, c .before .before .before .pre .0)
 
 returns : tie.Need-returns Inv-loop μ-loop
 returns c =
-    (c .before .before .loop .inv .1, λ e z. scanning-end _ _ _ _ (c .before .before .loop .inv .2 e z) (c .if1 .taken))
+    (c .before .before .before .loop .inv .size ∙ sym (c .before .before .before .before .before .pre .1 .0), scanning-stop _ _ _ (c .before .before .before .loop .inv) (c .before .before .loop-test .taken) (no-size (c .before .before .before .before .before .args .code .now) (c .before .before .before .loop .at) (omega (arith, c .before .before .before .before .shared-slice-known .given (c .before .before .before .loop .at))) (sym (c .before .size-at .ensures .0) ∙ c .if1 .taken)))
 
-read-requires : tie.Need-read-requires Inv-loop μ-loop
-read-requires c κs =
-    search needs
-
-enum-told : tie.Need-enum-told Inv-loop μ-loop
-enum-told c =
-    search needs
-
-returns-2 : tie.Need-returns-2 Inv-loop μ-loop
-returns-2 c =
-    (c .before .before .before .before .before .loop .inv .1, λ e z. scanning-stop _ _ _ _ (c .before .before .before .before .before .loop .inv .2 e z) (c .before .before .before .before .loop-test .taken) (c .before .before .before .if1 .left) (read-none _ _ (c .before .before .read .ensures) (c .enum-told .given .1)))
-
-enum-known-i : tie.Need-enum-known-i Inv-loop μ-loop
-enum-known-i c =
-    search needs
+cast-starts : tie.Need-cast-starts Inv-loop μ-loop
+cast-starts c =
+    omega (arith, c .before .size-at .ensures .1 .0)
 
 element-write-starts : tie.Need-element-write-starts Inv-loop μ-loop
 element-write-starts c =
-    search needs
+    omega (arith, c .before .before .before .before .before .pre .0)
 
-add-n : tie.Need-add-n Inv-loop μ-loop
-add-n c =
-    search needs
+add-at : tie.Need-add-at Inv-loop μ-loop
+add-at c =
+    omega (arith, c .before .size-at .ensures .1 .1, c .before .before .before .before .before .pre .0)
 
 loop-less : tie.Need-loop-less Inv-loop μ-loop
 loop-less c =
@@ -56,11 +49,11 @@ loop-less c =
 
 loop-again : tie.Need-loop-again Inv-loop μ-loop
 loop-again c =
-    (omega arith, length-set (c .before .before .before .before .before .before .loop .starts) (c .before .before .before .before .before .before .loop .at) 1 ∙ c .before .before .before .before .before .before .loop .inv .1, λ e z. scanning-next _ _ _ _ _ (c .before .before .before .before .before .loop-test .taken) (c .before .before .before .before .if1 .left) (c .before .before .before .before .before .before .before .before .pre) (read-found _ _ _ (c .before .before .before .read .ensures) (c .before .i .given .1)) (c .before .before .before .before .before .before .loop .inv .2 e z))
+    scanning-next _ _ _ _ (c .before .before .loop-test .taken) (c .before .before .before .before .before .pre .0) (c .before .size-at .ensures .0) (nonzero _ (c .if1 .left)) (c .before .before .before .loop .inv)
 
-returns-3 : tie.Need-returns-3 Inv-loop μ-loop
-returns-3 c =
-    (c .before .loop .inv .1, λ e z. scanning-used _ _ _ _ (c .before .loop .inv .2 e z) (c .loop-test .left))
+returns-2 : tie.Need-returns-2 Inv-loop μ-loop
+returns-2 c =
+    (c .before .loop .inv .size ∙ sym (c .before .before .before .pre .1 .0), scanning-end _ _ _ (c .before .loop .inv) (c .loop-test .left))
 
 pub scan-spec : {M : Type 1} → statement M
 scan-spec =
@@ -69,13 +62,11 @@ scan-spec =
     Inv-loop
     μ-loop
     loop-holds
+    size-at-requires
     returns
-    read-requires
-    enum-told
-    returns-2
-    enum-known-i
+    cast-starts
     element-write-starts
-    add-n
+    add-at
     loop-less
     loop-again
-    returns-3)
+    returns-2)

@@ -6,6 +6,7 @@ use Rattle.model.specs.Code.{operands, Act}
 use Rattle.model.specs.Operators.{flag}
 use Rattle.model.specs.Tables.{class}
 use mathlib.Core.Bool.{true, false}
+use mathlib.Core.Option.{none}
 use mathlib.Core.Path.{_≡_, refl, sym, _∙_}
 use Prim.Native.Nat.{ℕ}
 use borrow.Author.Needs.{needs}
@@ -36,7 +37,7 @@ fault-requires c κs = search needs
 returns : tie.Need-returns
 unfolding flag
 returns c =
-    (search needs, λ M m e p H l f S w. lacks (P0 (c .before .before .before .before)) (c .fault .result) (λ a. effect M m a S) (operands M m (fieldBy (c .before .before .before .before .args .g) (c .before .before .before .before .args .token))) (field-low M m _ _ l (c .before .before .before .if1 .taken) (field-lacks M _ (c .before .before .before .before .args .field-owners .now) (c .before .before .before .before .args .flags .now) (c .before .before .before .before .args .field-types .now) H false Act.ldfld (c .before .before .before .before .args .token) (c .before .before .field-row .result) _ refl (c .before .before .field-row .ensures .1 (H .few)) (c .before .if2 .taken)) (field-lacks M _ (c .before .before .before .before .args .field-owners .now) (c .before .before .before .before .args .flags .now) (c .before .before .before .before .args .field-types .now) H false Act.stfld (c .before .before .before .before .args .token) (c .before .before .field-row .result) _ refl (c .before .before .field-row .ensures .1 (H .few)) (c .before .if2 .taken))) (c .fault .ensures) f)
+    (search needs, λ M m e p H l f S w. lacks (P0 (c .before .before .before .before)) (c .fault .result) (λ a. effect M m a S) (operands M m (fieldBy (c .before .before .before .before .args .g) (c .before .before .before .before .args .token))) (field-low (λ o. o ≡ none) M m _ _ l (c .before .before .before .if1 .taken) (field-lacks M _ (c .before .before .before .before .args .field-owners .now) (c .before .before .before .before .args .flags .now) (c .before .before .before .before .args .field-types .now) H false Act.ldfld (c .before .before .before .before .args .token) (c .before .before .field-row .result) _ refl (c .before .before .field-row .ensures .1 (H .few)) (c .before .if2 .taken)) (field-lacks M _ (c .before .before .before .before .args .field-owners .now) (c .before .before .before .before .args .flags .now) (c .before .before .before .before .args .field-types .now) H false Act.stfld (c .before .before .before .before .args .token) (c .before .before .field-row .result) _ refl (c .before .before .field-row .ensures .1 (H .few)) (c .before .if2 .taken))) (c .fault .ensures) f)
 
 element-copy-out-class-byte : tie.Need-element-copy-out-class-byte
 element-copy-out-class-byte c = search needs
@@ -82,7 +83,7 @@ fault-requires-2 c κs = search needs
 returns-4 : tie.Need-returns-4
 unfolding flag
 returns-4 c =
-    (search needs, λ M m e p H l f S w. lacks (P0 (c .before .before .before .before)) (c .fault2 .result) (λ a. effect M m a S) (operands M m (fieldBy (c .before .before .before .before .args .g) (c .before .before .before .before .args .token))) (field-high M m _ _ (c .before .before .before .if1 .left) (field-lacks M _ (c .before .before .before .before .args .field-owners .now) (c .before .before .before .before .args .flags .now) (c .before .before .before .before .args .field-types .now) H true Act.ldsfld (c .before .before .before .before .args .token) (c .before .before .field-row2 .result) _ refl (c .before .before .field-row2 .ensures .1 (H .few)) (c .before .if4 .taken)) (field-lacks M _ (c .before .before .before .before .args .field-owners .now) (c .before .before .before .before .args .flags .now) (c .before .before .before .before .args .field-types .now) H true Act.stsfld (c .before .before .before .before .args .token) (c .before .before .field-row2 .result) _ refl (c .before .before .field-row2 .ensures .1 (H .few)) (c .before .if4 .taken))) (c .fault2 .ensures) f)
+    (search needs, λ M m e p H l f S w. lacks (P0 (c .before .before .before .before)) (c .fault2 .result) (λ a. effect M m a S) (operands M m (fieldBy (c .before .before .before .before .args .g) (c .before .before .before .before .args .token))) (field-high (λ o. o ≡ none) M m _ _ (c .before .before .before .if1 .left) (field-lacks M _ (c .before .before .before .before .args .field-owners .now) (c .before .before .before .before .args .flags .now) (c .before .before .before .before .args .field-types .now) H true Act.ldsfld (c .before .before .before .before .args .token) (c .before .before .field-row2 .result) _ refl (c .before .before .field-row2 .ensures .1 (H .few)) (c .before .if4 .taken)) (field-lacks M _ (c .before .before .before .before .args .field-owners .now) (c .before .before .before .before .args .flags .now) (c .before .before .before .before .args .field-types .now) H true Act.stsfld (c .before .before .before .before .args .token) (c .before .before .field-row2 .result) _ refl (c .before .before .field-row2 .ensures .1 (H .few)) (c .before .if4 .taken))) (c .fault2 .ensures) f)
 
 element-copy-out-t-2 : tie.Need-element-copy-out-t-2
 element-copy-out-t-2 c = search needs
