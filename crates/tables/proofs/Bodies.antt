@@ -8,7 +8,7 @@ use lib.Seq.{getD-drop, drop-drop}
 use borrow.Author.Tests.{ne-eqb}
 use Rattle.model.specs.Answer.{Answer, pick, orElse}
 use Rattle.model.specs.Loading.{Loading, little, bodyBytes, classRecord, fieldRecord, methodRecord, paramRecord, localRecord, entryRecord, oneRecord}
-use Rattle.tables.specs.declared.Body.{Body}
+use Rattle.tables.specs.declared.method.Body.{Body}
 use Rattle.tables.specs.Body.{bodyOf}
 use Rattle.tables.specs.Goes.{Goes}
 

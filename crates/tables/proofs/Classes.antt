@@ -12,7 +12,7 @@ use borrow.Author.Tests.{leb-true, ltb-true, eq-eqb, ne-eqb}
 use Rattle.model.specs.Answer.{pick, orElse, row, those}
 use Rattle.model.specs.Tables.{parentOf, climbs, descends, Field, isStaticField}
 use Rattle.model.specs.Loading.{Loading, follows, parentFits, classRecord}
-use Rattle.tables.specs.declared.numbers.Counts.{Counts}
+use Rattle.tables.specs.declared.order.Counts.{Counts}
 use Rattle.tables.specs.Goes.{Goes}
 use Rattle.tables.specs.Numbers.{classNumber}
 use Rattle.tables.specs.Stands.{Column, Falls, parentCell, FieldArrays, FieldRows, MethodArrays, Stands, countsOf}

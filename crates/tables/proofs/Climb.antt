@@ -5,13 +5,13 @@ use mathlib.Core.Bool.{Bool, true, false, not}
 use mathlib.Core.Option.{Option}
 use mathlib.Core.List.{List, [], _∷_}
 use native.Mathlib.Omega.{arith}
-use lib.ListN.{length, getD, set, take, drop, List·getD-eq-default, length-drop, drop-of-length-le}
-use lib.Seq.{take-all, take-nil, getD-drop, drop-drop}
+use lib.ListN.{length, getD, set, drop, List·getD-eq-default}
+use lib.Seq.{getD-drop, drop-drop}
 use Rattle.model.specs.Answer.{orElse, row, those, keepIf}
-use Rattle.model.specs.Tables.{parentOf, descends, Field, isOwn, layoutUp, layout, partOf, isStaticField}
+use Rattle.model.specs.Tables.{parentOf, descends, Field, isOwn, layoutUp, layout, isStaticField}
 use Rattle.model.specs.Loading.{Loading, little, paramRecord, localRecord}
-use Rattle.tables.specs.declared.numbers.Counts.{Counts}
-use Rattle.tables.specs.declared.Body.{Body}
+use Rattle.tables.specs.declared.order.Counts.{Counts}
+use Rattle.tables.specs.declared.method.Body.{Body}
 use Rattle.tables.specs.Body.{bodyOf}
 use Rattle.tables.specs.Goes.{Goes}
 use Rattle.tables.specs.Numbers.{codeIn, methodNumber, paramNumber, localNumber}
@@ -100,29 +100,6 @@ fine {L = L} g e S =
       statics = let a = those-few isStaticField (L .fields) in let b = S .fields .few in omega arith;
       methods = S .methods .few;
     })
-
--- ---- A part of the code
-
-pub part-past : (code : List ℕ) (offset size : ℕ) → length code < offset → take (length code - length code) (drop (length code) code) ≡ partOf code offset size
-unfolding partOf
-part-past code offset size h =
-    ap (take (length code - length code)) (drop-of-length-le code {i = length code} (omega arith))
-    ∙ take-nil (length code - length code)
-    ∙ sym (take-nil size)
-    ∙ ap (take size) (sym (drop-of-length-le code {i = offset} (omega arith)))
-
-pub part-within : (code : List ℕ) (offset size : ℕ) → take (offset + size - offset) (drop offset code) ≡ partOf code offset size
-unfolding partOf
-part-within code offset size = ap (λ (k : ℕ). take k (drop offset code)) same
-  where
-    same : offset + size - offset ≡ size
-    same = omega arith
-
-pub part-end : (code : List ℕ) (offset size : ℕ) → length code - offset ≤ size → take (length code - offset) (drop offset code) ≡ partOf code offset size
-unfolding partOf
-part-end code offset size h =
-    let l = length-drop offset code in
-    take-all (length code - offset) (drop offset code) (omega arith) ∙ sym (take-all size (drop offset code) (omega arith))
 
 -- ---- Little-endian numbers
 

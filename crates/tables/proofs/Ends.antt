@@ -14,7 +14,7 @@ use Rattle.model.specs.Answer.{Answer, bad, ok, _>>=_, guard, need, blame, pick
 use Rattle.model.specs.Tables.{sortByte, Method, Module, partOf, noMethod, methodAt, arguments, thisOf, parentOf, initialiserOf}
 use Rattle.model.specs.Loading.{Loading, Refusal, refusal, nothing, noField, bodyBytes, Read, oneRecord, readRecord, records, differs, agreed, load}
 use Rattle.model.specs.Operators.{flag}
-use Rattle.tables.specs.declared.numbers.Counts.{Counts}
+use Rattle.tables.specs.declared.order.Counts.{Counts}
 use Rattle.tables.specs.declared.Loads.{Loads as Ending}
 use Rattle.tables.specs.declared.Loading.{Loading as Loads}
 use Rattle.tables.specs.declared.Loaded.{Loaded}
@@ -132,14 +132,14 @@ pub record Going (tables code : List ℕ) (at : ℕ) (g : Counts) (parents : Lis
   pub counted : g ≡ countsOf loading
   pub stands : Stands code loading parents A M
 
-pub start : (tables code : List ℕ) → Going tables code 0 (record { last = 0; classes = 0; fields = 0; statics = 0; methods = 0; entry = 0 }) (replicate 33 0) noFields noMethods
+pub start : (tables code : List ℕ) (g : Counts) → g ≡ countsOf nothing → Going tables code 0 g (replicate 33 0) noFields noMethods
 unfolding nothing countsOf those parentCell orElse
-start tables code = record {
+start tables code g e = record {
   loading = nothing;
   fuel = length tables;
   enough = omega arith;
   rest = refl;
-  counted = refl;
+  counted = e;
   stands = record {
     classes = record { parent = empty-column 33 parentCell refl; falls = no-parent; few = omega arith };
     fields = no-fields;

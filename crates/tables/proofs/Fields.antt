@@ -15,7 +15,7 @@ use Rattle.model.specs.Answer.{pick, orElse, row, keepIf, those, lastOf, isNone
 use Rattle.model.specs.Tables.{Ty, byteOf, parentOf, Field, isOwn, layoutUp, layout, isStaticField, slot, typeAt}
 use Rattle.model.specs.Loading.{Loading, follows, within, noField, fieldRoom, fieldRecord}
 use Rattle.model.specs.Operators.{flag as bit}
-use Rattle.tables.specs.declared.numbers.Counts.{Counts}
+use Rattle.tables.specs.declared.order.Counts.{Counts}
 use Rattle.tables.specs.Goes.{Goes}
 use Rattle.tables.specs.Numbers.{isType, slotRoom, fieldNumber}
 use Rattle.tables.specs.Stands.{Column, Falls, ownerCell, flagCell, typeCell, FieldArrays, FieldRows, MethodArrays, Stands, countsOf}

@@ -12,7 +12,7 @@ use borrow.Author.Tests.{ltb-true}
 use Rattle.model.specs.Answer.{pick, orElse, mapOption, isNone, row, those, onLast}
 use Rattle.model.specs.Tables.{Ty, byteOf, Sort, initialiser, sortByte, isSort, Method, partOf, noMethod, methodAt, arguments, typeAt, isStaticField}
 use Rattle.model.specs.Loading.{Loading, follows, within, latest, withParam, withLocal, onLatest, paramRecord, localRecord, entryRecord}
-use Rattle.tables.specs.declared.numbers.Counts.{Counts}
+use Rattle.tables.specs.declared.order.Counts.{Counts}
 use Rattle.tables.specs.Holds.{byteAt}
 use Rattle.tables.specs.Goes.{Goes}
 use Rattle.tables.specs.Rules.{EntryRule}

@@ -13,7 +13,7 @@ use borrow.Author.Tests.{leb-true, ltb-true, ltb-false, eqb-false, ne-eqb}
 use Rattle.model.specs.Answer.{pick, orElse, isNone, at, those}
 use Rattle.model.specs.Tables.{Ty, byteOf, Sort, static, instance, virtual, constructor, initialiser, sortByte, isSort, Method, partOf, noMethod, methodAt, thisOf, arguments, root, initialiserOf, isStaticField, sortAt}
 use Rattle.model.specs.Loading.{Loading, follows, within, returnAt, overrideFits, rootFree, sortFits, codeFits, methodRecord}
-use Rattle.tables.specs.declared.numbers.Counts.{Counts}
+use Rattle.tables.specs.declared.order.Counts.{Counts}
 use Rattle.tables.specs.Holds.{byteAt}
 use Rattle.tables.specs.Goes.{Goes}
 use Rattle.tables.specs.Rules.{OverrideRule, SortRule}

@@ -3,7 +3,7 @@ use Prim.Native.Nat.{ℕ, _+_}
 use mathlib.Core.List.{List}
 use lib.ListN.{getD, drop}
 use Rattle.model.specs.Loading.{little}
-use Rattle.tables.specs.declared.Body.{Body}
+use Rattle.tables.specs.declared.method.Body.{Body}
 
 -- the record at an offset: owner, sort, return type, max stack, overridden row, code offset and code length behind its kind
 unfoldable pub bodyOf : List ℕ → ℕ → Body

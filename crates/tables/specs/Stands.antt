@@ -11,7 +11,7 @@ use Rattle.model.specs.Tables.{Ty, byteOf, Sort, virtual, sortByte, Field, Meth
 use Rattle.model.specs.Loading.{Loading, noField}
 use Rattle.model.specs.Operators.{flag}
 use Rattle.tables.specs.Holds.{byteAt}
-use Rattle.tables.specs.declared.numbers.Counts.{Counts}
+use Rattle.tables.specs.declared.order.Counts.{Counts}
 
 -- an array that has at each row what f says of the row
 pub record Column {A : Type 0} (size : ℕ) (f : Option A → ℕ) (rows : List A) (a : List ℕ) : Type 0 where

@@ -5,7 +5,7 @@ use borrow.Author.Needs.{needs}
 use Rattle.tables.proofs.Climb.{fine, small-own}
 use Rattle.tables.proofs.Ends.{Going, start, too-long, ends-two, ends-record, goes-on, ends-open, ends-differing, ends-loaded, number-known, small-overrides}
 use Rattle.tables.specs.Stands.{countsOf}
-use Rattle.tables.specs.declared.numbers.Counts.{Counts}
+use Rattle.tables.specs.declared.order.Counts.{Counts}
 use borrow.Author.Tests.{le-leb, lt-leb}
 use lib.Dec.{leb}
 use lib.ListN.{length}
@@ -35,8 +35,11 @@ refused-requires-2 c κs = search needs
 returns-2 : tie.Need-returns-2 Inv-loop μ-loop
 returns-2 c = too-long (c .before .before .before .before .before .args .tables .now) (c .before .before .before .before .before .args .code .now) _ (ap (λ (b : Bool). b && leb (length (c .before .before .before .before .before .args .code .now)) 32768) (le-leb _ _ (c .before .before .if1 .left)) ∙ lt-leb _ _ (c .before .if2 .taken)) (c .refused2 .ensures (omega arith) (omega arith) (λ z. refl))
 
+nothing-requires : tie.Need-nothing-requires Inv-loop μ-loop
+nothing-requires c κs = search needs
+
 loop-holds : tie.Need-loop-holds Inv-loop μ-loop
-loop-holds c = start (c .before .before .before .before .args .tables .now) (c .before .before .before .before .args .code .now)
+loop-holds c = start (c .before .before .before .before .before .args .tables .now) (c .before .before .before .before .before .args .code .now) _ (c .nothing .ensures)
 
 shared-slice-read-body-bytes : tie.Need-shared-slice-read-body-bytes Inv-loop μ-loop
 shared-slice-read-body-bytes c = c .before .loop-test .taken
@@ -48,7 +51,7 @@ refused-requires-3 : tie.Need-refused-requires-3 Inv-loop μ-loop
 refused-requires-3 c κs = search needs
 
 returns-3 : tie.Need-returns-3 Inv-loop μ-loop
-returns-3 c = ends-two (c .before .before .before .before .before .before .before .before .before .before .args .tables .now) (c .before .before .before .before .before .before .before .before .before .before .args .code .now) (c .before .before .before .before .before .before .before .if1 .left) (c .before .before .before .before .before .before .if2 .left) _ _ _ _ _ (c .before .before .before .before .before .loop .inv) (c .before .before .before .before .loop-test .taken) _ (c .before .before .body-bytes .ensures) (inl (c .before .if3 .taken)) _ (c .refused3 .ensures (omega arith) (omega arith) (λ z. absurd (omega arith)))
+returns-3 c = ends-two (c .before .before .before .before .before .before .before .before .before .before .before .args .tables .now) (c .before .before .before .before .before .before .before .before .before .before .before .args .code .now) (c .before .before .before .before .before .before .before .before .if1 .left) (c .before .before .before .before .before .before .before .if2 .left) _ _ _ _ _ (c .before .before .before .before .before .loop .inv) (c .before .before .before .before .loop-test .taken) _ (c .before .before .body-bytes .ensures) (inl (c .before .if3 .taken)) _ (c .refused3 .ensures (omega arith) (omega arith) (λ z. absurd (omega arith)))
 
 sub-if4 : tie.Need-sub-if4 Inv-loop μ-loop
 sub-if4 c = omega arith
@@ -57,13 +60,13 @@ refused-requires-4 : tie.Need-refused-requires-4 Inv-loop μ-loop
 refused-requires-4 c κs = search needs
 
 returns-4 : tie.Need-returns-4 Inv-loop μ-loop
-returns-4 c = ends-two (c .before .before .before .before .before .before .before .before .before .before .before .args .tables .now) (c .before .before .before .before .before .before .before .before .before .before .before .args .code .now) (c .before .before .before .before .before .before .before .before .if1 .left) (c .before .before .before .before .before .before .before .if2 .left) _ _ _ _ _ (c .before .before .before .before .before .before .loop .inv) (c .before .before .before .before .before .loop-test .taken) _ (c .before .before .before .body-bytes .ensures) (inr (c .before .before .if3 .left, c .before .if4 .taken)) _ (c .refused4 .ensures (omega arith) (omega arith) (λ z. absurd (omega arith)))
+returns-4 c = ends-two (c .before .before .before .before .before .before .before .before .before .before .before .before .args .tables .now) (c .before .before .before .before .before .before .before .before .before .before .before .before .args .code .now) (c .before .before .before .before .before .before .before .before .before .if1 .left) (c .before .before .before .before .before .before .before .before .if2 .left) _ _ _ _ _ (c .before .before .before .before .before .before .loop .inv) (c .before .before .before .before .before .loop-test .taken) _ (c .before .before .before .body-bytes .ensures) (inr (c .before .before .if3 .left, c .before .if4 .taken)) _ (c .refused4 .ensures (omega arith) (omega arith) (λ z. absurd (omega arith)))
 
 add-next : tie.Need-add-next Inv-loop μ-loop
-add-next c = omega (arith, c .if4 .left, c .before .before .before .before .loop-test .taken, c .before .before .before .before .before .before .before .if1 .left)
+add-next c = omega (arith, c .if4 .left, c .before .before .before .before .loop-test .taken, c .before .before .before .before .before .before .before .before .if1 .left)
 
 add-next-2 : tie.Need-add-next-2 Inv-loop μ-loop
-add-next-2 c = omega (arith, c .if4 .left, c .before .before .before .before .loop-test .taken, c .before .before .before .before .before .before .before .if1 .left)
+add-next-2 c = omega (arith, c .if4 .left, c .before .before .before .before .loop-test .taken, c .before .before .before .before .before .before .before .before .if1 .left)
 
 one-record-requires : tie.Need-one-record-requires Inv-loop μ-loop
 one-record-requires c κs = (fine _ (c .before .before .before .before .before .before .before .before .before .before .before .before .before .before .before .before .before .before .before .before .before .before .before .before .loop .inv .counted) (c .before .before .before .before .before .before .before .before .before .before .before .before .before .before .before .before .before .before .before .before .before .before .before .before .loop .inv .stands), (small-own (c .before .before .before .before .before .before .before .before .before .before .before .before .before .before .before .before .before .before .before .before .before .before .before .before .loop .inv .stands .fields), (omega (arith, c .before .before .before .before .before .before .before .before .before .before .before .before .before .before .before .before .before .before .before .before .before .body-bytes .ensures, c .before .before .before .before .before .before .before .before .before .before .before .before .before .before .before .before .before .before .before .before .if3 .left), omega (arith, c .before .before .before .before .before .before .before .before .before .before .before .before .before .before .before .before .before .before .before .before .before .body-bytes .ensures, c .before .before .before .before .before .before .before .before .before .before .before .before .before .before .before .before .before .before .before .if4 .left, c .before .before .before .before .before .before .before .before .before .before .before .before .before .before .before .before .before .before .before .before .before .before .before .loop-test .taken))))
@@ -72,20 +75,20 @@ refused-requires-5 : tie.Need-refused-requires-5 Inv-loop μ-loop
 refused-requires-5 c κs = search needs
 
 returns-5 : tie.Need-returns-5 Inv-loop μ-loop
-returns-5 c = let w = number-known _ _ _ (c .before .before .one-record .ensures (c .before .before .before .before .before .before .before .before .before .before .before .before .before .before .before .before .before .before .before .before .before .before .before .before .before .before .before .before .before .before .before .before .args .code .now) (c .before .before .before .before .before .before .before .before .before .before .before .before .before .before .before .before .before .before .before .before .before .before .before .before .before .before .before .loop .inv .loading) refl (c .before .before .before .before .before .before .before .before .before .before .before .before .before .before .before .before .before .before .before .before .before .before .before .before .before .before .before .loop .inv .counted) (c .before .before .before .before .before .before .before .before .before .before .before .before .before .before .before .before .before .before .before .before .before .before .before .before .before .before .before .loop .inv .stands)) (c .before .if5 .taken) in
-    ends-record (c .before .before .before .before .before .before .before .before .before .before .before .before .before .before .before .before .before .before .before .before .before .before .before .before .before .before .before .before .before .before .before .before .args .tables .now) (c .before .before .before .before .before .before .before .before .before .before .before .before .before .before .before .before .before .before .before .before .before .before .before .before .before .before .before .before .before .before .before .before .args .code .now) (c .before .before .before .before .before .before .before .before .before .before .before .before .before .before .before .before .before .before .before .before .before .before .before .before .before .before .before .before .before .if1 .left) (c .before .before .before .before .before .before .before .before .before .before .before .before .before .before .before .before .before .before .before .before .before .before .before .before .before .before .before .before .if2 .left) _ _ _ _ _ (c .before .before .before .before .before .before .before .before .before .before .before .before .before .before .before .before .before .before .before .before .before .before .before .before .before .before .before .loop .inv) (c .before .before .before .before .before .before .before .before .before .before .before .before .before .before .before .before .before .before .before .before .before .before .before .before .before .before .loop-test .taken) _ (c .before .before .before .before .before .before .before .before .before .before .before .before .before .before .before .before .before .before .before .before .before .before .before .before .body-bytes .ensures) (c .before .before .before .before .before .before .before .before .before .before .before .before .before .before .before .before .before .before .before .before .before .before .before .if3 .left) (c .before .before .before .before .before .before .before .before .before .before .before .before .before .before .before .before .before .before .before .before .before .before .if4 .left) _ _ (c .before .before .one-record .ensures (c .before .before .before .before .before .before .before .before .before .before .before .before .before .before .before .before .before .before .before .before .before .before .before .before .before .before .before .before .before .before .before .before .args .code .now) (c .before .before .before .before .before .before .before .before .before .before .before .before .before .before .before .before .before .before .before .before .before .before .before .before .before .before .before .loop .inv .loading) refl (c .before .before .before .before .before .before .before .before .before .before .before .before .before .before .before .before .before .before .before .before .before .before .before .before .before .before .before .loop .inv .counted) (c .before .before .before .before .before .before .before .before .before .before .before .before .before .before .before .before .before .before .before .before .before .before .before .before .before .before .before .loop .inv .stands)) (c .before .if5 .taken) _ (c .refused5 .ensures (omega (arith, w .0)) (omega (arith, w .1)) (λ z. absurd (omega (arith, w .0))))
+returns-5 c = let w = number-known _ _ _ (c .before .before .one-record .ensures (c .before .before .before .before .before .before .before .before .before .before .before .before .before .before .before .before .before .before .before .before .before .before .before .before .before .before .before .before .before .before .before .before .before .args .code .now) (c .before .before .before .before .before .before .before .before .before .before .before .before .before .before .before .before .before .before .before .before .before .before .before .before .before .before .before .loop .inv .loading) refl (c .before .before .before .before .before .before .before .before .before .before .before .before .before .before .before .before .before .before .before .before .before .before .before .before .before .before .before .loop .inv .counted) (c .before .before .before .before .before .before .before .before .before .before .before .before .before .before .before .before .before .before .before .before .before .before .before .before .before .before .before .loop .inv .stands)) (c .before .if5 .taken) in
+    ends-record (c .before .before .before .before .before .before .before .before .before .before .before .before .before .before .before .before .before .before .before .before .before .before .before .before .before .before .before .before .before .before .before .before .before .args .tables .now) (c .before .before .before .before .before .before .before .before .before .before .before .before .before .before .before .before .before .before .before .before .before .before .before .before .before .before .before .before .before .before .before .before .before .args .code .now) (c .before .before .before .before .before .before .before .before .before .before .before .before .before .before .before .before .before .before .before .before .before .before .before .before .before .before .before .before .before .before .if1 .left) (c .before .before .before .before .before .before .before .before .before .before .before .before .before .before .before .before .before .before .before .before .before .before .before .before .before .before .before .before .before .if2 .left) _ _ _ _ _ (c .before .before .before .before .before .before .before .before .before .before .before .before .before .before .before .before .before .before .before .before .before .before .before .before .before .before .before .loop .inv) (c .before .before .before .before .before .before .before .before .before .before .before .before .before .before .before .before .before .before .before .before .before .before .before .before .before .before .loop-test .taken) _ (c .before .before .before .before .before .before .before .before .before .before .before .before .before .before .before .before .before .before .before .before .before .before .before .before .body-bytes .ensures) (c .before .before .before .before .before .before .before .before .before .before .before .before .before .before .before .before .before .before .before .before .before .before .before .if3 .left) (c .before .before .before .before .before .before .before .before .before .before .before .before .before .before .before .before .before .before .before .before .before .before .if4 .left) _ _ (c .before .before .one-record .ensures (c .before .before .before .before .before .before .before .before .before .before .before .before .before .before .before .before .before .before .before .before .before .before .before .before .before .before .before .before .before .before .before .before .before .args .code .now) (c .before .before .before .before .before .before .before .before .before .before .before .before .before .before .before .before .before .before .before .before .before .before .before .before .before .before .before .loop .inv .loading) refl (c .before .before .before .before .before .before .before .before .before .before .before .before .before .before .before .before .before .before .before .before .before .before .before .before .before .before .before .loop .inv .counted) (c .before .before .before .before .before .before .before .before .before .before .before .before .before .before .before .before .before .before .before .before .before .before .before .before .before .before .before .loop .inv .stands)) (c .before .if5 .taken) _ (c .refused5 .ensures (omega (arith, w .0)) (omega (arith, w .1)) (λ z. absurd (omega (arith, w .0))))
 
 loop-less : tie.Need-loop-less Inv-loop μ-loop
 loop-less c = omega (arith, c .before .before .before .before .before .before .before .before .before .before .before .before .before .before .before .before .before .before .before .before .before .before .if4 .left, c .before .before .before .before .before .before .before .before .before .before .before .before .before .before .before .before .before .before .before .before .before .before .before .before .before .before .loop-test .taken)
 
 loop-again : tie.Need-loop-again Inv-loop μ-loop
-loop-again c = goes-on (c .before .before .before .before .before .before .before .before .before .before .before .before .before .before .before .before .before .before .before .before .before .before .before .before .before .before .before .before .before .before .before .before .args .tables .now) (c .before .before .before .before .before .before .before .before .before .before .before .before .before .before .before .before .before .before .before .before .before .before .before .before .before .before .before .before .before .before .before .before .args .code .now) (c .before .before .before .before .before .before .before .before .before .before .before .before .before .before .before .before .before .before .before .before .before .before .before .before .before .before .before .before .before .if1 .left) (c .before .before .before .before .before .before .before .before .before .before .before .before .before .before .before .before .before .before .before .before .before .before .before .before .before .before .before .before .if2 .left) _ _ _ _ _ (c .before .before .before .before .before .before .before .before .before .before .before .before .before .before .before .before .before .before .before .before .before .before .before .before .before .before .before .loop .inv) (c .before .before .before .before .before .before .before .before .before .before .before .before .before .before .before .before .before .before .before .before .before .before .before .before .before .before .loop-test .taken) _ (c .before .before .before .before .before .before .before .before .before .before .before .before .before .before .before .before .before .before .before .before .before .before .before .before .body-bytes .ensures) (c .before .before .before .before .before .before .before .before .before .before .before .before .before .before .before .before .before .before .before .before .before .before .before .if3 .left) (c .before .before .before .before .before .before .before .before .before .before .before .before .before .before .before .before .before .before .before .before .before .before .if4 .left) _ _ (c .before .before .one-record .ensures (c .before .before .before .before .before .before .before .before .before .before .before .before .before .before .before .before .before .before .before .before .before .before .before .before .before .before .before .before .before .before .before .before .args .code .now) (c .before .before .before .before .before .before .before .before .before .before .before .before .before .before .before .before .before .before .before .before .before .before .before .before .before .before .before .loop .inv .loading) refl (c .before .before .before .before .before .before .before .before .before .before .before .before .before .before .before .before .before .before .before .before .before .before .before .before .before .before .before .loop .inv .counted) (c .before .before .before .before .before .before .before .before .before .before .before .before .before .before .before .before .before .before .before .before .before .before .before .before .before .before .before .loop .inv .stands)) _ _ _ _ (c .before .if5 .left) (λ K p. p)
+loop-again c = goes-on (c .before .before .before .before .before .before .before .before .before .before .before .before .before .before .before .before .before .before .before .before .before .before .before .before .before .before .before .before .before .before .before .before .before .args .tables .now) (c .before .before .before .before .before .before .before .before .before .before .before .before .before .before .before .before .before .before .before .before .before .before .before .before .before .before .before .before .before .before .before .before .before .args .code .now) (c .before .before .before .before .before .before .before .before .before .before .before .before .before .before .before .before .before .before .before .before .before .before .before .before .before .before .before .before .before .before .if1 .left) (c .before .before .before .before .before .before .before .before .before .before .before .before .before .before .before .before .before .before .before .before .before .before .before .before .before .before .before .before .before .if2 .left) _ _ _ _ _ (c .before .before .before .before .before .before .before .before .before .before .before .before .before .before .before .before .before .before .before .before .before .before .before .before .before .before .before .loop .inv) (c .before .before .before .before .before .before .before .before .before .before .before .before .before .before .before .before .before .before .before .before .before .before .before .before .before .before .loop-test .taken) _ (c .before .before .before .before .before .before .before .before .before .before .before .before .before .before .before .before .before .before .before .before .before .before .before .before .body-bytes .ensures) (c .before .before .before .before .before .before .before .before .before .before .before .before .before .before .before .before .before .before .before .before .before .before .before .if3 .left) (c .before .before .before .before .before .before .before .before .before .before .before .before .before .before .before .before .before .before .before .before .before .before .if4 .left) _ _ (c .before .before .one-record .ensures (c .before .before .before .before .before .before .before .before .before .before .before .before .before .before .before .before .before .before .before .before .before .before .before .before .before .before .before .before .before .before .before .before .before .args .code .now) (c .before .before .before .before .before .before .before .before .before .before .before .before .before .before .before .before .before .before .before .before .before .before .before .before .before .before .before .loop .inv .loading) refl (c .before .before .before .before .before .before .before .before .before .before .before .before .before .before .before .before .before .before .before .before .before .before .before .before .before .before .before .loop .inv .counted) (c .before .before .before .before .before .before .before .before .before .before .before .before .before .before .before .before .before .before .before .before .before .before .before .before .before .before .before .loop .inv .stands)) _ _ _ _ (c .before .if5 .left) (λ K p. p)
 
 refused-requires-6 : tie.Need-refused-requires-6 Inv-loop μ-loop
 refused-requires-6 c κs = search needs
 
 returns-6 : tie.Need-returns-6 Inv-loop μ-loop
-returns-6 c = ends-open (c .before .before .before .before .before .before .before .before .args .tables .now) (c .before .before .before .before .before .before .before .before .args .code .now) (c .before .before .before .before .before .if1 .left) (c .before .before .before .before .if2 .left) _ _ _ _ _ (c .before .before .before .loop .inv) (c .before .before .loop-test .left) (c .before .if6 .taken) _ (c .refused6 .ensures (omega arith) (omega arith) (λ z. absurd (omega arith)))
+returns-6 c = ends-open (c .before .before .before .before .before .before .before .before .before .args .tables .now) (c .before .before .before .before .before .before .before .before .before .args .code .now) (c .before .before .before .before .before .before .if1 .left) (c .before .before .before .before .before .if2 .left) _ _ _ _ _ (c .before .before .before .loop .inv) (c .before .before .loop-test .left) (c .before .if6 .taken) _ (c .refused6 .ensures (omega arith) (omega arith) (λ z. absurd (omega arith)))
 
 first-differing-requires : tie.Need-first-differing-requires Inv-loop μ-loop
 first-differing-requires c κs = (fine _ (c .before .before .before .before .before .before .loop .inv .counted) (c .before .before .before .before .before .before .loop .inv .stands) .methods, small-overrides (c .before .before .before .before .before .before .loop .inv .stands .methods))
@@ -101,11 +104,11 @@ refused-requires-7 c κs = search needs
 
 returns-7 : tie.Need-returns-7 Inv-loop μ-loop
 unfolding countsOf
-returns-7 c = ends-differing (c .before .before .before .before .before .before .before .before .before .before .before .before .before .before .args .tables .now) (c .before .before .before .before .before .before .before .before .before .before .before .before .before .before .args .code .now) (c .before .before .before .before .before .before .before .before .before .before .before .if1 .left) (c .before .before .before .before .before .before .before .before .before .before .if2 .left) _ _ _ _ _ (c .before .before .before .before .before .before .before .before .before .loop .inv) (c .before .before .before .before .before .before .before .before .loop-test .left) (c .before .before .before .before .before .before .before .if6 .left) _ (c .before .before .first-differing .ensures .1 (c .before .before .before .before .before .before .before .before .before .before .before .before .before .before .args .code .now) _ _ _ (ap (λ (h : Counts). h .methods) (c .before .before .before .before .before .before .before .before .before .loop .inv .counted)) (c .before .before .before .before .before .before .before .before .before .loop .inv .stands .methods) refl refl refl refl) _ (c .before .if7 .taken) _ refl (c .refused7 .ensures (omega arith) (omega arith) (λ z. absurd (omega arith)))
+returns-7 c = ends-differing (c .before .before .before .before .before .before .before .before .before .before .before .before .before .before .before .args .tables .now) (c .before .before .before .before .before .before .before .before .before .before .before .before .before .before .before .args .code .now) (c .before .before .before .before .before .before .before .before .before .before .before .before .if1 .left) (c .before .before .before .before .before .before .before .before .before .before .before .if2 .left) _ _ _ _ _ (c .before .before .before .before .before .before .before .before .before .loop .inv) (c .before .before .before .before .before .before .before .before .loop-test .left) (c .before .before .before .before .before .before .before .if6 .left) _ (c .before .before .first-differing .ensures .1 (c .before .before .before .before .before .before .before .before .before .before .before .before .before .before .before .args .code .now) _ _ _ (ap (λ (h : Counts). h .methods) (c .before .before .before .before .before .before .before .before .before .loop .inv .counted)) (c .before .before .before .before .before .before .before .before .before .loop .inv .stands .methods) refl refl refl refl) _ (c .before .if7 .taken) _ refl (c .refused7 .ensures (omega arith) (omega arith) (λ z. absurd (omega arith)))
 
 returns-8 : tie.Need-returns-8 Inv-loop μ-loop
 unfolding countsOf
-returns-8 c = ends-loaded (c .before .before .before .before .before .before .before .before .before .before .before .before .before .args .tables .now) (c .before .before .before .before .before .before .before .before .before .before .before .before .before .args .code .now) (c .before .before .before .before .before .before .before .before .before .before .if1 .left) (c .before .before .before .before .before .before .before .before .before .if2 .left) _ _ _ _ _ (c .before .before .before .before .before .before .before .before .loop .inv) (c .before .before .before .before .before .before .before .loop-test .left) (c .before .before .before .before .before .before .if6 .left) _ (c .before .first-differing .ensures .1 (c .before .before .before .before .before .before .before .before .before .before .before .before .before .args .code .now) _ _ _ (ap (λ (h : Counts). h .methods) (c .before .before .before .before .before .before .before .before .loop .inv .counted)) (c .before .before .before .before .before .before .before .before .loop .inv .stands .methods) refl refl refl refl) _ (c .if7 .left) refl refl
+returns-8 c = ends-loaded (c .before .before .before .before .before .before .before .before .before .before .before .before .before .before .args .tables .now) (c .before .before .before .before .before .before .before .before .before .before .before .before .before .before .args .code .now) (c .before .before .before .before .before .before .before .before .before .before .before .if1 .left) (c .before .before .before .before .before .before .before .before .before .before .if2 .left) _ _ _ _ _ (c .before .before .before .before .before .before .before .before .loop .inv) (c .before .before .before .before .before .before .before .loop-test .left) (c .before .before .before .before .before .before .if6 .left) _ (c .before .first-differing .ensures .1 (c .before .before .before .before .before .before .before .before .before .before .before .before .before .before .args .code .now) _ _ _ (ap (λ (h : Counts). h .methods) (c .before .before .before .before .before .before .before .before .loop .inv .counted)) (c .before .before .before .before .before .before .before .before .loop .inv .stands .methods) refl refl refl refl) _ (c .if7 .left) refl refl
 
 pub load-spec : {M : Type 1} → statement M
 load-spec =
@@ -117,6 +120,7 @@ load-spec =
     returns
     refused-requires-2
     returns-2
+    nothing-requires
     loop-holds
     shared-slice-read-body-bytes
     body-bytes-requires

@@ -1,0 +1,14 @@
+-- `tables::order::nothing` meets its contract. Assumes nothing.
+use mathlib.Core.Path.{refl}
+use Rattle.model.specs.Answer.{those}
+use Rattle.model.specs.Loading.{nothing}
+use Rattle.tables.specs.Stands.{countsOf}
+use Rattle.tables.proofs.order.nothing.Statement.{statement}
+use Rattle.tables.proofs.order.nothing.Tie as tie
+
+returns : tie.Need-returns
+unfolding nothing countsOf those
+returns c = refl
+
+pub nothing-spec : {M : Type 1} → statement M
+nothing-spec = tie.close (tie.spec returns)
