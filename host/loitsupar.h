@@ -1,4 +1,4 @@
-/* What a host program calls of Loitsupar. Link target/staticlib/libloitsupar.a, which host/build makes.
+/* What a host program calls of Loitsupar. Link target/host/libloitsupar.a, which host/build makes.
  *
  * A slice goes in as a pointer and a length. Each pointer is not NULL, even where its length is 0, and points to as many elements as its
  * length says; what is lent for an answer overlaps nothing else that is lent. Everything else is tested: every content of tables, code and

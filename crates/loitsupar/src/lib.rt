@@ -1,5 +1,3 @@
 // The public functions over house tables and code; none has a `requires`.
 pub mod checking; // the check of a module, which loads it first
 pub mod running; // the run of a module, which loads it first
-pub mod turning; // the line of `turn` for a whole input
-pub mod hosting; // the same for a host program in C or Rust

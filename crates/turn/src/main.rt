@@ -13,6 +13,6 @@ fn main() {
     let mut space = io::large_buffer();
     let n = io::read_full(STDIN_FILENO, &mut space);
     let mut out = [0u8; 128];
-    let k = loitsupar::turning::turn(&space[..n], &mut out);
+    let k = turning::turn(&space[..n], &mut out);
     say(out, k);
 }
