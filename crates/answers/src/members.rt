@@ -1,4 +1,13 @@
 // Static fields, marks of started classes and objects of a State as text.
+ghost use mathlib.Core.Path.{_≡_};
+ghost use mathlib.Core.List.{[], _∷_, _++_};
+ghost use lib.Dec.{eqb};
+ghost use Rattle.model.specs.Answer.{pick};
+ghost use Rattle.model.specs.Turn.{decimal as decimalText};
+ghost use Rattle.model.specs.Replay.{cellText, commas, cellTexts, heapText};
+ghost use Rattle.cells.specs.View.{span};
+ghost use Rattle.text.specs.Append.{Appended};
+ghost use Rattle.answers.specs.Texts.{oneOf, cellOf, valueIn, comma as commaText, noneYet, upTo, staticAt, markRow, fieldIn, placeOf, heapIn};
 use crate::cell::cell;
 use crate::cell::comma;
 use crate::cell::joined;
@@ -7,26 +16,36 @@ use text::numbers::decimal;
 use text::numbers::put;
 
 // What the tables say of a field: its flag, its type or its slot.
-fn of_field(said: &[u8; 129], row: usize) -> u8 {
+fn of_field(said: &[u8; 129], row: usize) -> u8
+    ensures { λ r. ⌜ r ≡ oneOf 129 (now (said .entry)) row ⌝ }
+{
     if row < 129 { said[row] } else { 0 }
 }
 
 // What is said of a class: its mark, or how many cells its objects have.
-fn of_class(said: &[u8; 33], row: usize) -> u8 {
+fn of_class(said: &[u8; 33], row: usize) -> u8
+    ensures { λ r. ⌜ r ≡ oneOf 33 (now (said .entry)) row ⌝ }
+{
     if row < 33 { said[row] } else { 0 }
 }
 
-fn static_at(bits: &[u64; 64], slot: usize) -> u64 {
+fn static_at(bits: &[u64; 64], slot: usize) -> u64
+    ensures { λ r. ⌜ r ≡ oneOf 64 (now (bits .entry)) slot ⌝ }
+{
     if slot < 64 { bits[slot] } else { 0 }
 }
 
 // The class of the object at a place, 0 where none is.
-fn class_at(classes: &[u8; 256], place: usize) -> usize {
+fn class_at(classes: &[u8; 256], place: usize) -> usize
+    ensures { λ r. ⌜ r ≡ oneOf 256 (now (classes .entry)) place ⌝ }
+{
     if place < 256 { wide(classes[place]) } else { 0 }
 }
 
 // The type of cell i of a class.
-fn type_at(types: &[u8; 264], class: usize, i: usize) -> u8 {
+fn type_at(types: &[u8; 264], class: usize, i: usize) -> u8
+    ensures { λ r. ⌜ r ≡ cellOf 33 8 (now (types .entry)) class i ⌝ }
+{
     if class < 33 {
         if i < 8 {
             return types[class * 8 + i];
@@ -36,13 +55,22 @@ fn type_at(types: &[u8; 264], class: usize, i: usize) -> u8 {
 }
 
 // The bits of cell i of the object at a place.
-fn bits_at(heap: &[u64; 2048], place: usize, i: usize) -> u64 {
+fn bits_at(heap: &[u64; 2048], place: usize, i: usize) -> u64
+    ensures { λ r. ⌜ r ≡ cellOf 256 8 (now (heap .entry)) place i ⌝ }
+{
     if place < 256 {
         if i < 8 {
             return heap[place * 8 + i];
         }
     }
     0
+}
+
+// Whether no row is said yet, after one that is said if its flag is 1.
+fn none_yet(first: bool, flag: u8) -> bool
+    ensures { λ r. ⌜ r ≡ noneYet first flag ⌝ }
+{
+    if flag == 1 { false } else { first }
 }
 
 // A static field: its row among all fields, and its cell. Nothing for an instance field.
@@ -54,7 +82,9 @@ fn static_field(
     flag: u8,
     kind: u8,
     bits: u64,
-) -> usize {
+) -> usize
+    ensures { λ r. ⌜ Appended (now (out .entry)) at (pick (eqb flag 1) (commaText first ++ (decimalText row ++ (58 ∷ cellText (valueIn kind bits)))) []) (now (out .exit)) r ⌝ }
+{
     if flag != 1 {
         return at;
     }
@@ -72,27 +102,34 @@ pub fn statics(
     types: &[u8; 129],
     slots: &[u8; 129],
     bits: &[u64; 64],
-) -> usize {
+) -> usize
+    ensures { λ r. ⌜ Appended (now (out .entry)) at (commas (upTo (staticAt (now (flags .entry)) (now (types .entry)) (now (slots .entry)) (now (bits .entry))) 129)) (now (out .exit)) r ⌝ }
+{
     let mut next = at;
+    let mut first = true;
     let mut row: usize = 0;
     while row < 129 {
+        let flag = of_field(flags, row);
         let slot = wide(of_field(slots, row));
         next = static_field(
             out,
             next,
-            next == at,
+            first,
             row,
-            of_field(flags, row),
+            flag,
             of_field(types, row),
             static_at(bits, slot),
         );
+        first = none_yet(first, flag);
         row += 1;
     }
     next
 }
 
 // The row of a class if it is started.
-fn mark(out: &mut [u8], at: usize, first: bool, row: usize, started: u8) -> usize {
+fn mark(out: &mut [u8], at: usize, first: bool, row: usize, started: u8) -> usize
+    ensures { λ r. ⌜ Appended (now (out .entry)) at (pick (eqb started 1) (commaText first ++ decimalText row) []) (now (out .exit)) r ⌝ }
+{
     if started != 1 {
         return at;
     }
@@ -101,11 +138,16 @@ fn mark(out: &mut [u8], at: usize, first: bool, row: usize, started: u8) -> usiz
 }
 
 // The rows of the started classes, rising, joined by commas.
-pub fn marks(out: &mut [u8], at: usize, started: &[u8; 33]) -> usize {
+pub fn marks(out: &mut [u8], at: usize, started: &[u8; 33]) -> usize
+    ensures { λ r. ⌜ Appended (now (out .entry)) at (commas (upTo (markRow (now (started .entry))) 33)) (now (out .exit)) r ⌝ }
+{
     let mut next = at;
+    let mut first = true;
     let mut row: usize = 0;
     while row < 33 {
-        next = mark(out, next, next == at, row, of_class(started, row));
+        let flag = of_class(started, row);
+        next = mark(out, next, first, row, flag);
+        first = none_yet(first, flag);
         row += 1;
     }
     next
@@ -120,7 +162,9 @@ fn object_cells(
     heap: &[u64; 2048],
     place: usize,
     count: usize,
-) -> usize {
+) -> usize
+    ensures { λ r. ⌜ Appended (now (out .entry)) at (cellTexts (span (fieldIn (now (types .entry)) class (now (heap .entry)) place) 0 count)) (now (out .exit)) r ⌝ }
+{
     let mut next = at;
     let mut i: usize = 0;
     while i < count {
@@ -145,7 +189,9 @@ fn object(
     types: &[u8; 264],
     heap: &[u64; 2048],
     place: usize,
-) -> usize {
+) -> usize
+    ensures { λ r. ⌜ Appended (now (out .entry)) at (heapText (placeOf (now (sizes .entry)) (now (types .entry)) (now (heap .entry)) place class ∷ [])) (now (out .exit)) r ⌝ }
+{
     if class == 0 {
         return at;
     }
@@ -172,7 +218,9 @@ pub fn objects(
     sizes: &[u8; 33],
     types: &[u8; 264],
     heap: &[u64; 2048],
-) -> usize {
+) -> usize
+    ensures { λ r. ⌜ Appended (now (out .entry)) at (heapText (heapIn (now (classes .entry)) (now (sizes .entry)) (now (types .entry)) (now (heap .entry)))) (now (out .exit)) r ⌝ }
+{
     let mut next = at;
     let mut place: usize = 0;
     while place < 256 {

@@ -1,4 +1,12 @@
 // A State whole, as text: `frames=FRAMES statics=STATICS marks=MARKS heap=HEAP`.
+ghost use mathlib.Core.List.{List, _++_};
+ghost use Prim.Native.Nat.{ℕ};
+ghost use Rattle.model.specs.Tables.{Module};
+ghost use Rattle.model.specs.Replay.{commas, heapText, wordStatics, wordMarks, wordHeap};
+ghost use Rattle.tables.specs.Holds.{Holds};
+ghost use Rattle.cells.specs.Order.{Fine, HoldsDerived};
+ghost use Rattle.text.specs.Append.{Appended};
+ghost use Rattle.answers.specs.Texts.{upTo, staticAt, markRow, heapIn, Told};
 use crate::frame::frames;
 use crate::members::marks;
 use crate::members::objects;
@@ -10,7 +18,9 @@ use tables::Loaded;
 use text::numbers::word;
 
 // The tables derived from a loaded module, of which the types and counts of objects' cells are wanted.
-fn derived_from(m: Loaded) -> Derived {
+fn derived_from(m: Loaded) -> Derived
+    ensures { λ r. ⌜ ((M : Module) (code : List ℕ) → Holds M code m → Fine M → HoldsDerived M r) ⌝ }
+{
     let parents = m.parents;
     let field_owners = m.field_owners;
     let flags = m.flags;
@@ -32,7 +42,9 @@ fn derived_from(m: Loaded) -> Derived {
     )
 }
 
-fn statics_part(out: &mut [u8], at: usize, m: Loaded, s: State) -> usize {
+fn statics_part(out: &mut [u8], at: usize, m: Loaded, s: State) -> usize
+    ensures { λ r. ⌜ Appended (now (out .entry)) at (wordStatics ++ commas (upTo (staticAt (m .flags) (m .«field_types») (m .slots) (s .statics)) 129)) (now (out .exit)) r ⌝ }
+{
     let flags = m.flags;
     let types = m.field_types;
     let slots = m.slots;
@@ -41,13 +53,17 @@ fn statics_part(out: &mut [u8], at: usize, m: Loaded, s: State) -> usize {
     statics(out, next, &flags, &types, &slots, &bits)
 }
 
-fn marks_part(out: &mut [u8], at: usize, s: State) -> usize {
+fn marks_part(out: &mut [u8], at: usize, s: State) -> usize
+    ensures { λ r. ⌜ Appended (now (out .entry)) at (wordMarks ++ commas (upTo (markRow (s .marks)) 33)) (now (out .exit)) r ⌝ }
+{
     let started = s.marks;
     let next = word(out, at, b" marks=");
     marks(out, next, &started)
 }
 
-fn heap_part(out: &mut [u8], at: usize, d: Derived, s: State) -> usize {
+fn heap_part(out: &mut [u8], at: usize, d: Derived, s: State) -> usize
+    ensures { λ r. ⌜ Appended (now (out .entry)) at (wordHeap ++ heapText (heapIn (s .classes) (d .sizes) (d .cells) (s .heap))) (now (out .exit)) r ⌝ }
+{
     let sizes = d.sizes;
     let types = d.cells;
     let classes = s.classes;
@@ -57,7 +73,9 @@ fn heap_part(out: &mut [u8], at: usize, d: Derived, s: State) -> usize {
 }
 
 // The State of a run of a module, after what `out` holds up to `at`.
-pub fn state(out: &mut [u8], at: usize, m: Loaded, s: State) -> usize {
+pub fn state(out: &mut [u8], at: usize, m: Loaded, s: State) -> usize
+    ensures { λ r. ⌜ Told m s (now (out .entry)) at (now (out .exit)) r ⌝ }
+{
     let a = word(out, at, b"frames=");
     let b = frames(out, a, m, s);
     let c = statics_part(out, b, m, s);

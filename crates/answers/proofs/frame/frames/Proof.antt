@@ -1,19 +1,27 @@
--- `frames` is safe and ends: the buffer keeps its length.
+-- `frames` meets its contract. What is appended so far is the text of the frames below.
 use borrow.Author.Needs.{needs}
-use mathlib.Core.Path.{_≡_}
-use Prim.Native.Nat.{_-_}
+use mathlib.Core.Path.{_≡_, refl, _∙_}
+use Prim.Native.Nat.{_-_, _≤_}
+use mathlib.Core.List.{[]}
 use lib.ListN.{length}
+use Rattle.model.specs.Replay.{framesText}
+use Rattle.cells.specs.View.{down}
+use Rattle.text.specs.Append.{Appended}
+use Rattle.text.proofs.Appending.{nothing}
+use Rattle.answers.specs.Texts.{oneFrame, framesIn}
+use Rattle.answers.proofs.Joining.{frame-more, all-of}
 use Rattle.answers.proofs.frame.frames.Statement.{statement}
 use Rattle.answers.proofs.frame.frames.Tie as tie
 
 abbrev Inv-loop : tie.InvT-loop
-Inv-loop out₀ at m s live next₀ i₀ out next i = length out ≡ length out₀
+Inv-loop out₀ at m s live next₀ i₀ out next i = (i ≤ live) × Appended out₀ at (framesText (down (oneFrame m s) i) []) out next × (length out ≡ length out₀)
 
 abbrev μ-loop : tie.MeasureT-loop
 μ-loop out₀ at m s live next₀ i₀ out next i = live - i
 
 loop-holds : tie.Need-loop-holds Inv-loop μ-loop
-loop-holds c = search needs
+unfolding framesText down
+loop-holds c = (search needs, nothing _ _, refl)
 
 one-requires : tie.Need-one-requires Inv-loop μ-loop
 one-requires c κs = search needs
@@ -25,13 +33,18 @@ loop-less : tie.Need-loop-less Inv-loop μ-loop
 loop-less c = search needs
 
 loop-again : tie.Need-loop-again Inv-loop μ-loop
-loop-again c = search needs
+loop-again c =
+    let inv = c .before .before .before .before .before .loop .inv in
+    (search needs, frame-more (oneFrame (c .before .before .before .before .before .before .before .args .m) (c .before .before .before .before .before .before .before .args .s)) _ (inv .1) (c .before .before .one .ensures), c .before .before .one .kept .0 ∙ inv .2)
 
 same-length : tie.Need-same-length Inv-loop μ-loop
-same-length c = search needs
+same-length c = c .before .loop .inv .2
 
 returns : tie.Need-returns Inv-loop μ-loop
-returns c = search needs
+unfolding framesIn
+returns c =
+    let inv = c .before .loop .inv in
+    all-of (λ k. framesText (down (oneFrame (c .before .before .before .args .m) (c .before .before .before .args .s)) k) []) _ _ (inv .0) (c .loop-test .left) (inv .1)
 
 pub frames-spec : {M : Type 1} → statement M
 frames-spec =

@@ -1,0 +1,27 @@
+-- `of_frame` meets its contract: a number, or 0.
+use borrow.Author.Needs.{needs}
+use mathlib.Core.Path.{sym}
+use Rattle.answers.proofs.Reading.{one-in, one-out}
+use Rattle.answers.proofs.frame.of_frame.Statement.{statement}
+use Rattle.answers.proofs.frame.of_frame.Tie as tie
+
+mul-result : tie.Need-mul-result
+mul-result c = search needs
+
+element-copy-out-result : tie.Need-element-copy-out-result
+element-copy-out-result c = search needs
+
+returns : tie.Need-returns
+returns c = sym (one-in 32 _ _ (c .before .if1 .taken))
+
+returns-2 : tie.Need-returns-2
+returns-2 c = sym (one-out 32 _ _ (c .if1 .left))
+
+pub of-frame-spec : {M : Type 1} → statement M
+of-frame-spec =
+    tie.close
+    (tie.spec
+    mul-result
+    element-copy-out-result
+    returns
+    returns-2)
