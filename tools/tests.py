@@ -1,8 +1,8 @@
 #!/usr/bin/env python3
-"""tests.py [--turn PROGRAM]: tests of asm, dis, explain and shapes, and of the lines that examples/EXPECTED promises.
+"""tests.py [--turn PROGRAM]: tests of asm, dis, explain, shapes and answer, and of the lines that examples/EXPECTED promises.
 
 The promised lines are compared with the second implementation where it is there, and with PROGRAM, a `turn` that reads standard input,
-where one is named.
+and the proved `replay` where one is named.
 """
 
 import argparse
@@ -358,6 +358,9 @@ def test_expected(tally, turn):
         if how == "turn" and turn:
             said = subprocess.run([turn], input=data, capture_output=True).stdout.decode().strip()
             tally.holds(said == line, f"{name}: {turn} says {said}, promised {line}")
+        if how == "run" and turn:
+            said = run_tool("answer", MAIN / "examples" / name).stdout.decode().split(" | ")
+            tally.holds(said[2:3] == ["run " + line], f"{name}: the proved replay says {said}, promised run {line}")
         if SECOND.is_dir():
             said = second_says(data, how)
             tally.holds(said == line, f"{name}, {how}: the second implementation says {said}, promised {line}")
