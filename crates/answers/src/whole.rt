@@ -1,10 +1,6 @@
 // A State whole, as text: `frames=FRAMES statics=STATICS marks=MARKS heap=HEAP`.
-ghost use mathlib.Core.List.{List, _++_};
-ghost use Prim.Native.Nat.{ℕ};
-ghost use Rattle.model.specs.Tables.{Module};
+ghost use mathlib.Core.List.{_++_};
 ghost use Rattle.model.specs.Replay.{commas, heapText, wordStatics, wordMarks, wordHeap};
-ghost use Rattle.tables.specs.Holds.{Holds};
-ghost use Rattle.cells.specs.Order.{Fine, HoldsDerived};
 ghost use Rattle.text.specs.Append.{Appended};
 ghost use Rattle.answers.specs.Texts.{upTo, staticAt, markRow, heapIn, Told};
 use crate::frame::frames;
@@ -13,34 +9,9 @@ use crate::members::objects;
 use crate::members::statics;
 use cells::Derived;
 use cells::State;
-use derived::derive;
+use derived::derived_from;
 use tables::Loaded;
 use text::numbers::word;
-
-// The tables derived from a loaded module, of which the types and counts of objects' cells are wanted.
-fn derived_from(m: Loaded) -> Derived
-    ensures { λ r. ⌜ ((M : Module) (code : List ℕ) → Holds M code m → Fine M → HoldsDerived M r) ⌝ }
-{
-    let parents = m.parents;
-    let field_owners = m.field_owners;
-    let flags = m.flags;
-    let field_types = m.field_types;
-    let slots = m.slots;
-    let owners = m.owners;
-    let roots = m.roots;
-    derive(
-        &parents,
-        m.classes,
-        &field_owners,
-        &flags,
-        &field_types,
-        &slots,
-        m.fields,
-        &owners,
-        &roots,
-        m.methods,
-    )
-}
 
 fn statics_part(out: &mut [u8], at: usize, m: Loaded, s: State) -> usize
     ensures { λ r. ⌜ Appended (now (out .entry)) at (wordStatics ++ commas (upTo (staticAt (m .flags) (m .«field_types») (m .slots) (s .statics)) 129)) (now (out .exit)) r ⌝ }

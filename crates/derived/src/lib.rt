@@ -8,6 +8,7 @@ use crate::members::sizes_of;
 use crate::rows::diagonal;
 use crate::rows::inherit;
 use cells::Derived;
+use tables::Loaded;
 ghost use mathlib.Core.Path.{_≡_};
 ghost use Prim.Native.Nat.{ℕ};
 ghost use mathlib.Core.List.{List};
@@ -65,4 +66,29 @@ pub fn derive<'a>(
         statics: statics,
         chosen: chosen,
     }
+}
+
+// The same from a whole module.
+pub fn derived_from(m: Loaded) -> Derived
+    ensures { λ r. ⌜ ((M : Module) (code : List ℕ) → Holds M code m → Fine M → HoldsDerived M r) ⌝ }
+{
+    let parents = m.parents;
+    let field_owners = m.field_owners;
+    let flags = m.flags;
+    let field_types = m.field_types;
+    let slots = m.slots;
+    let owners = m.owners;
+    let roots = m.roots;
+    derive(
+        &parents,
+        m.classes,
+        &field_owners,
+        &flags,
+        &field_types,
+        &slots,
+        m.fields,
+        &owners,
+        &roots,
+        m.methods,
+    )
 }

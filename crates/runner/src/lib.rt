@@ -2,7 +2,7 @@
 use cells::Cells;
 use cells::Derived;
 use cells::State;
-use derived::derive;
+use derived::derived_from;
 use derived::fits_table;
 use machine::steps::Left;
 use machine::steps::steps;
@@ -14,16 +14,15 @@ use states::ending::tidy;
 use tables::Loaded;
 use text::line::Value;
 ghost use mathlib.Core.Path.{_≡_};
-ghost use mathlib.Core.List.{List};
 ghost use mathlib.Core.Bool.{true};
 ghost use mathlib.Core.Option.{some};
-ghost use Prim.Native.Nat.{ℕ, suc, _<_};
+ghost use Prim.Native.Nat.{suc, _<_};
 ghost use Rattle.model.specs.Answer.{pick};
 ghost use Rattle.model.specs.Tables.{Module};
 ghost use Rattle.model.specs.Loading.{refusal};
 ghost use Rattle.model.specs.Run.{runModule};
 ghost use Rattle.tables.specs.Holds.{Holds};
-ghost use Rattle.cells.specs.Order.{Fine, HoldsDerived};
+ghost use Rattle.cells.specs.Order.{Fine};
 ghost use Rattle.cells.specs.View.{valueBy};
 ghost use Rattle.cells.specs.Layout.{tidy, save};
 ghost use Rattle.plain.specs.Steps.{Few, Placed, Ok};
@@ -157,31 +156,6 @@ fn told(m: Loaded, d: Derived, r: Left) -> Ended
         value: value,
         state: state,
     }
-}
-
-// The tables derived from a loaded module.
-fn derived_from(m: Loaded) -> Derived
-    ensures { λ r. ⌜ ((M : Module) (code : List ℕ) → Holds M code m → Fine M → HoldsDerived M r) ⌝ }
-{
-    let parents = m.parents;
-    let field_owners = m.field_owners;
-    let flags = m.flags;
-    let field_types = m.field_types;
-    let slots = m.slots;
-    let owners = m.owners;
-    let roots = m.roots;
-    derive(
-        &parents,
-        m.classes,
-        &field_owners,
-        &flags,
-        &field_types,
-        &slots,
-        m.fields,
-        &owners,
-        &roots,
-        m.methods,
-    )
 }
 
 // The loop from the entry's frame on, with its arguments laid in the cells.

@@ -1,8 +1,8 @@
 -- `derived_from` meets its contract: `derive` is given the arrays of the module.
 use borrow.Author.Needs.{needs}
 use mathlib.Core.Path.{refl}
-use Rattle.answers.proofs.whole.derived_from.Statement.{statement}
-use Rattle.answers.proofs.whole.derived_from.Tie as tie
+use Rattle.derived.proofs.derived_from.Statement.{statement}
+use Rattle.derived.proofs.derived_from.Tie as tie
 
 derive-requires : tie.Need-derive-requires
 derive-requires c κs = search needs
