@@ -41,11 +41,6 @@ unfolding Goes
 goes-bad (bad n) P Q h nz = h
 goes-bad (ok a) P Q h nz = absurd (nz (h .0))
 
-pub goes-map : {A : Type 0} (m : Answer ℕ A) (k : ℕ) (P Q : A → Type 0) → ((a : A) → P a → Q a) → Goes m k P → Goes m k Q
-unfolding Goes
-goes-map (bad n) k P Q f h = h
-goes-map (ok a) k P Q f h = (h .0, f a (h .1))
-
 -- ---- Tests
 
 pub both-true : (a b : Bool) → a && b ≡ true → (a ≡ true) × (b ≡ true)

@@ -205,16 +205,3 @@ module _ {A : Type 0} {size : ℕ} {f : Option A → ℕ} where
           ∙ ap f (sym (row-last g rows))
           ∙ ap (λ (k : ℕ). f (row (onLast g rows) k)) (sym q)
       go r (no n) = getD-set-other a (length rows) r v 0 n ∙ C .each r ∙ ap f (sym (row-kept g rows r n))
-
-  -- the last row changes in what the array does not hold
-  pub column-kept : {rows : List A} {a : List ℕ} → Column size f rows a → (g : A → A) → ((o : Option A) → f (mapOption g o) ≡ f o) → Column size f (onLast g rows) a
-  column-kept {rows} {a} C g h = record { long = C .long; each = λ r. go r (ℕ-discrete r (length rows)) }
-    where
-      go : (r : ℕ) → Dec (r ≡ length rows) → getD a r 0 ≡ f (row (onLast g rows) r)
-      go r (yes q) =
-          C .each r
-          ∙ sym (h (row rows r))
-          ∙ ap (λ (k : ℕ). f (mapOption g (row rows k))) q
-          ∙ ap f (sym (row-last g rows))
-          ∙ ap (λ (k : ℕ). f (row (onLast g rows) k)) (sym q)
-      go r (no n) = C .each r ∙ ap f (sym (row-kept g rows r n))
