@@ -1,53 +1,64 @@
-/* A host program: checks modules, runs them, and reads the state that a run reached. */
+/* A host program: checks a module file, runs it, says numbers in words, and reads the state that a run reached. */
 #include <inttypes.h>
 #include <stdio.h>
 #include "loitsupar.h"
 
-_Static_assert(sizeof(struct loitsupar_fault) == 8 * LOITSUPAR_FAULT_CELLS, "cells of a fault");
-_Static_assert(sizeof(struct loitsupar_answer) == 8 * LOITSUPAR_ANSWER_CELLS, "cells of an answer");
-_Static_assert(sizeof(struct loitsupar_state) == 8 * LOITSUPAR_STATE_CELLS, "cells of a state");
+/* Module files: 20 bytes of tables, with one class and one static method of two int32 parameters that returns an int32, max stack 2; then four
+ * bytes of code. The code of the second, ldarg.0, ldarg.1, nop, ret, leaves one value too many. */
+#define TABLES 20, 0, 1, 0, 3, 1, 0, 1, 2, 0, 0, 0, 0, 0, 4, 0, 4, 1, 4, 1, 6, 1
+static const uint8_t sum[] = {TABLES, 0x02, 0x03, 0x58, 0x2A};
+static const uint8_t too_many[] = {TABLES, 0x02, 0x03, 0x00, 0x2A};
+static const int64_t arguments[] = {44, -2};
 
-/* One class, one static method with two int32 parameters that returns an int32, max stack 2, four bytes of code. */
-static const uint8_t tables[] = {1, 0, 3, 1, 0, 1, 2, 0, 0, 0, 0, 0, 4, 0, 4, 1, 4, 1, 6, 1};
-static const uint8_t sum[] = {0x02, 0x03, 0x58, 0x2A};      /* ldarg.0, ldarg.1, add, ret */
-static const uint8_t too_many[] = {0x02, 0x03, 0x00, 0x2A}; /* ldarg.0, ldarg.1, nop, ret: one value too many */
-
-static void check(const char *name, const uint8_t *code, size_t length) {
-  struct loitsupar_fault f;
-  loitsupar_check(tables, sizeof tables, code, length, (uint64_t *)&f, LOITSUPAR_FAULT_CELLS);
-  printf("check %s: %" PRIu64 " in method %" PRIu64 " at %" PRIu64 "\n", name, f.number, f.method, f.offset);
-}
-
-static void run(const char *name, const uint8_t *code, size_t length, uint64_t budget) {
-  static struct loitsupar_state s;
-  struct loitsupar_answer a;
-  const uint64_t arguments[] = {44, (uint64_t)-2};
-  loitsupar_run(tables, sizeof tables, code, length, arguments, 2, budget, (uint64_t *)&a, LOITSUPAR_ANSWER_CELLS, (uint64_t *)&s,
-                LOITSUPAR_STATE_CELLS);
-  printf("run %s: %" PRIu64 " in method %" PRIu64 " at %" PRIu64 " after %" PRIu64 " steps", name, a.ending, a.method, a.offset, a.steps);
-  if (a.sort == 1) printf(", value %" PRId32, (int32_t)(uint32_t)a.bits);
-  printf("\n");
-  for (uint64_t frame = 0; frame < s.live; frame++) {
-    printf("  frame of method %" PRIu64 ", stack:", s.methods[frame]);
-    for (uint64_t i = 0; i < s.heights[frame]; i++) printf(" %" PRId32, (int32_t)(uint32_t)s.stacks[frame][i]);
+static void show_state(const struct loitsupar_state *s) {
+  for (uint64_t frame = 0; frame < s->live; frame++) {
+    printf("  frame of method %" PRIu64 ", stack:", s->methods[frame]);
+    for (uint64_t i = 0; i < s->heights[frame]; i++) printf(" %" PRId32, (int32_t)(uint32_t)s->stacks[frame][i]);
     printf("\n");
   }
 }
 
-/* Too few cells are a refusal, and what was lent stays as it is. */
-static void lend_too_few(void) {
+/* The call that most hosts need. */
+static void check_then_run(const char *name, const void *file, size_t length, uint64_t budget) {
+  struct loitsupar_answer a;
+  uint32_t ending = loitsupar_check_then_run(file, length, arguments, 2, budget, &a, NULL);
+  printf("%s: %" PRIu32 ", %s; method %" PRIu64 ", offset %" PRIu64 ", %" PRIu64 " steps", name, ending, loitsupar_words(ending), a.method, a.offset, a.steps);
+  if (a.sort == LOITSUPAR_INT32) printf(", value %" PRId32, (int32_t)(uint32_t)a.bits);
+  printf("\n");
+}
+
+/* The run alone, which doesn't ask the check, and its state. */
+static void run(const char *name, const void *file, size_t length, uint64_t budget) {
+  static struct loitsupar_state s;
+  struct loitsupar_module module;
+  struct loitsupar_answer a;
+  if (loitsupar_split(file, length, &module) != LOITSUPAR_FINE) return;
+  loitsupar_run_module(&module, arguments, 2, budget, &a, &s);
+  printf("run of %s: %" PRIu64 ", %s\n", name, a.ending, loitsupar_words(a.ending));
+  show_state(&s);
+}
+
+/* What isn't given, or is given too small, is told. */
+static void misuse(void) {
   struct loitsupar_fault f = {7, 7, 7};
-  uint32_t said = loitsupar_check(tables, sizeof tables, sum, sizeof sum, (uint64_t *)&f, 2);
-  printf("two cells for a fault: %" PRIu32 ", and they are %" PRIu64 " %" PRIu64 "\n", said, f.number, f.method);
+  struct loitsupar_module empty = {NULL, 0, NULL, 0}, absent = {NULL, 3, NULL, 0};
+  uint64_t cells[2] = {7, 7};
+  printf("an empty module: %" PRIu32 ", a module that isn't there: %" PRIu32 "\n", loitsupar_check_module(&empty, NULL), loitsupar_check_module(&absent, &f));
+  printf("no arguments as NULL: %" PRIu32 ", two as NULL: %" PRIu32 "\n", loitsupar_check_then_run(sum, sizeof sum, NULL, 0, 100, NULL, NULL),
+         loitsupar_check_then_run(sum, sizeof sum, NULL, 2, 100, NULL, NULL));
+  printf("two cells for a fault: %" PRIu32, loitsupar_check(sum + 2, 20, sum + 22, 4, cells, 2));
+  printf(", and they are %" PRIu64 " %" PRIu64 "\n", cells[0], cells[1]);
 }
 
 int main(void) {
-  check("sum", sum, sizeof sum);
-  check("too_many", too_many, sizeof too_many);
-  run("sum", sum, sizeof sum, 100);
+  printf("Loitsupar %s\n", LOITSUPAR_VERSION);
+  check_then_run("sum", sum, sizeof sum, 100);
+  check_then_run("sum, budget 2", sum, sizeof sum, 2);
+  check_then_run("sum, budget 2000000", sum, sizeof sum, 2000000);
+  check_then_run("too_many", too_many, sizeof too_many, 100);
+  check_then_run("half a file", sum, 12, 100);
   run("sum, budget 2", sum, sizeof sum, 2);
-  run("sum, budget 2000000", sum, sizeof sum, 2000000);
   run("too_many", too_many, sizeof too_many, 100);
-  lend_too_few();
+  misuse();
   return 0;
 }

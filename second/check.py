@@ -17,17 +17,24 @@ Verdict = namedtuple("Verdict", "number method offset")
 # in words what stood there and what was wanted.
 Explanation = namedtuple("Explanation", "number method offset operation shape found wanted")
 
+# Two arrivals at a target with different shapes. Each has the offset of the
+# instruction that goes on there and the shape that it brings; the first has no
+# offset where no earlier instruction arrives, so that the shape is empty.
+Arrivals = namedtuple("Arrivals", "target first second")
+Arrival = namedtuple("Arrival", "offset shape")
+
 
 class Fault(Exception):
     """A fault of one method, at an instruction."""
 
-    def __init__(self, number, offset, wanted, operation=None, shape=None):
+    def __init__(self, number, offset, wanted, operation=None, shape=None, arrivals=None):
         super().__init__(MEANING[number])
         self.number = number
         self.offset = offset
         self.operation = operation
         self.shape = shape
         self.wanted = wanted
+        self.arrivals = arrivals
 
 
 def check(module):
@@ -57,6 +64,15 @@ def shapes(module, row):
             for instruction in work.instructions if instruction.offset in work.tested]
 
 
+def arrivals(module, row):
+    """The two arrivals of one method's fault 16; None where it has no such fault."""
+    try:
+        MethodCheck(module, module.methods[row]).check()
+    except Fault as fault:
+        return fault.arrivals
+    return None
+
+
 def shape_words(shape):
     """A shape in words, from the bottom of the stack."""
     if shape is None:
@@ -78,6 +94,7 @@ class MethodCheck:
         self.method = method
         self.instructions = []
         self.shapes = {}
+        self.came_from = {}
         self.tested = set()
 
     def check(self):
@@ -132,17 +149,21 @@ class MethodCheck:
 
     def arrive(self, instruction, target, brought):
         """The first arrival from an earlier instruction gives the shape; every other must bring the same."""
-        found = self.shapes.setdefault(target, brought)
+        if target not in self.shapes:
+            self.shapes[target] = brought
+            self.came_from[target] = instruction.offset
+        found = self.shapes[target]
         if found != brought:
             wanted = "at offset %d the shape found first (%s), not the one brought (%s)" % (
                 target, shape_words(found), shape_words(brought))
-            self.refuse(OTHER_SHAPE, instruction, wanted)
+            first = Arrival(self.came_from.get(target), found)
+            self.refuse(OTHER_SHAPE, instruction, wanted, Arrivals(target, first, Arrival(instruction.offset, brought)))
 
     def wanted(self, need, fault):
         if fault == TOO_MANY:
             return "room for %d more within max stack %d" % (need.pushes - need.pops, self.method.max_stack)
         return need.words
 
-    def refuse(self, number, instruction, wanted):
+    def refuse(self, number, instruction, wanted, arrivals=None):
         shape = self.shapes[instruction.offset]
-        raise Fault(number, instruction.offset, wanted, instruction.operation, shape)
+        raise Fault(number, instruction.offset, wanted, instruction.operation, shape, arrivals)

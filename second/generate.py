@@ -8,6 +8,7 @@ import sys
 from collections import Counter
 
 import generate_faults as faults
+import programs
 import generate_recipes as recipes
 from dice import Dice
 from generate_bodies import INT32_EDGES, INT64_EDGES
@@ -196,21 +197,19 @@ def print_tally(counts):
     print("missing: " + (", ".join(missing) or "none"))
 
 
-def main(arguments):
-    options = [argument for argument in arguments if argument.startswith("--")]
-    numbers = [argument for argument in arguments if not argument.startswith("--")]
-    if len(numbers) != 2 or options not in ([], ["--tally"]):
-        print(__doc__, file=sys.stderr)
-        return 2
-    seed, count = int(numbers[0]), int(numbers[1])
-    cases = (case(seed, number) for number in range(count))
-    if options:
+def main(words):
+    parser = programs.parser_for(__doc__)
+    parser.add_argument("seed", type=programs.a_count)
+    parser.add_argument("count", type=programs.a_count)
+    parser.add_argument("--tally", action="store_true")
+    options = parser.parse_args(words)
+    cases = (case(options.seed, number) for number in range(options.count))
+    if options.tally:
         print_tally(tally(cases))
-        return 0
+        return
     for each in cases:
         sys.stdout.buffer.write(write_case(each))
-    return 0
 
 
 if __name__ == "__main__":
-    sys.exit(main(sys.argv[1:]))
+    programs.started(main)

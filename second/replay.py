@@ -3,9 +3,9 @@
     python3 second/replay.py < vectors/random.bin
 """
 
-import sys
 from collections import namedtuple
 
+import programs
 from check import check
 from state import state_text, value_text
 from step import run
@@ -68,15 +68,14 @@ def answer(case):
         number, place, *check(module), *ran[:4], value_text(ran.value), state_text(ran.state))
 
 
-def main():
+def main(words):
+    programs.parser_for(__doc__).parse_args(words)
     try:
-        for case in read_cases(sys.stdin.buffer.read()):
+        for case in read_cases(programs.standard_input()):
             print(answer(case))
     except EOFError as cut:
-        print(cut, file=sys.stderr)
-        return 1
-    return 0
+        raise programs.Trouble(str(cut), 1)
 
 
 if __name__ == "__main__":
-    sys.exit(main())
+    programs.started(main)

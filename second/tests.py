@@ -8,12 +8,12 @@ import itertools
 import math
 import os
 import struct
-import sys
 from fractions import Fraction
 
 import check
 import generate
 import operators
+import programs
 from dice import Dice
 from generate_bodies import INT32_EDGES, INT64_EDGES
 from generate_modules import grow_plan, lay_out
@@ -319,7 +319,8 @@ def test_laws(tests):
             tests.same("law: case %d with one step more" % number, more[:4], ran[:4])
 
 
-def main():
+def main(words):
+    programs.parser_for(__doc__).parse_args(words)
     tests = Tests()
     for test in (test_listed_runs, test_lengths, test_operators, test_f, test_turn, test_explain, test_rules,
                  test_random, test_generator, test_laws):
@@ -329,4 +330,4 @@ def main():
 
 
 if __name__ == "__main__":
-    sys.exit(main())
+    programs.started(main)

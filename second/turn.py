@@ -3,8 +3,7 @@
     python3 second/turn.py < input
 """
 
-import sys
-
+import programs
 from check import check
 from handed_back import CUT_SHORT, FINE, TOO_LONG
 from state import value_text
@@ -41,5 +40,10 @@ def turn(data):
     return line(*ran[:5])
 
 
+def main(words):
+    programs.parser_for(__doc__).parse_args(words)
+    print(turn(programs.read_start("-")))  # the answer for a longer input is that of its start: too long
+
+
 if __name__ == "__main__":
-    print(turn(sys.stdin.buffer.read()))
+    programs.started(main)

@@ -5,23 +5,25 @@ The promised lines are compared with the second implementation where it is there
 and the proved `replay` where one is named.
 """
 
-import argparse
 import itertools
 import pathlib
 import random
+import shutil
 import subprocess
 import sys
 import tempfile
 
 sys.dont_write_bytecode = True
 
+from cases import LENGTH_BYTES, case_of, read_cases, replay_lines
+from cases import read_answer as read_replayed
+from common import Trouble, parser_for, started
 from housetext.assemble import assemble
 from housetext.disassemble import disassemble
 from housetext.explaining import Source, explain, read_answer
 from housetext.instructions import BY_MNEMONIC
 from housetext.meanings import MEANINGS
 from housetext.names import Names, read_names, write_names
-from housetext.records import split_input
 from housetext.shaping import shape_lines
 from housetext.words import TextErrors
 
@@ -68,17 +70,10 @@ def bare_lines(text):
 
 
 def vector_modules():
-    """Inputs of `turn` out of the files of cases: u16 length and tables, u16 length and code, u8 and i64 arguments, u32 budget."""
+    """Inputs of `turn` out of the files of cases."""
     for path in VECTORS:
-        data, offset = path.read_bytes(), 0
-        while offset < len(data):
-            parts = []
-            for _ in range(2):
-                length = int.from_bytes(data[offset:offset + 2], "little")
-                parts.append(data[offset + 2:offset + 2 + length])
-                offset += 2 + length
-            offset += 1 + 8 * data[offset] + 4
-            yield len(parts[0]).to_bytes(2, "little") + parts[0] + parts[1]
+        for case in read_cases(path.read_bytes()):
+            yield len(case.tables).to_bytes(LENGTH_BYTES, "little") + case.tables + case.code
 
 
 def test_lengths(tally):
@@ -335,9 +330,9 @@ def test_programs(tally):
         bad.write_bytes(b"class Object\r\nclass Object\r\n")
         ended = run_tool("asm", bad)
         message = ended.stderr.decode().strip()
-        tally.holds(ended.returncode == 1 and message == f"{bad}:2: duplicate class `Object`", f"message of a bad text: {message}")
+        tally.holds(ended.returncode == 1 and message.startswith(f"{bad}:2:7: duplicate class `Object`\n"), f"message of a bad text: {message}")
         bad.write_bytes(b"class Object\n\xff\n")
-        tally.holds(run_tool("asm", bad).stderr.decode().strip() == f"{bad}:2: the text is not UTF-8", "a text that isn't UTF-8")
+        tally.holds(run_tool("asm", bad).stderr.decode().startswith(f"{bad}:2:1: the text is not UTF-8"), "a text that isn't UTF-8")
         tally.holds(run_tool("asm", folder / "none.turn").returncode == 1, "a file that isn't there")
         tally.holds(run_tool("explain", out, "15 4").returncode == 1, "explain with a line that is none")
 
@@ -366,14 +361,16 @@ def test_expected(tally, turn):
             tally.holds(said == line, f"{name}, {how}: the second implementation says {said}, promised {line}")
 
 
+def second_program(name, data):
+    """What a program of the second implementation prints for an input."""
+    return subprocess.run([sys.executable, "-B", SECOND / f"{name}.py"], input=data, stdout=subprocess.PIPE).stdout
+
+
 def second_says(data, how):
     """The line of the second implementation: `turn`, or the run without the check out of `replay`."""
     if how == "turn":
-        return subprocess.run([sys.executable, "-B", SECOND / "turn.py"], input=data, capture_output=True).stdout.decode().strip()
-    _, tables, code = split_input(data)
-    case = len(tables).to_bytes(2, "little") + tables + len(code).to_bytes(2, "little") + code + b"\0" + (100_000).to_bytes(4, "little")
-    said = subprocess.run([sys.executable, "-B", SECOND / "replay.py"], input=case, capture_output=True).stdout.decode()
-    return said.split(" | ")[2].removeprefix("run ") if " | " in said else said
+        return second_program("turn", data).decode().strip()
+    return " ".join(map(str, read_replayed(replay_lines([case_of(data)], second_program)[0]).run))
 
 
 def test_explain(tally):
@@ -421,10 +418,12 @@ def explained(name, line):
     return explain(Source(data.data, data.names), read_answer(line))
 
 
-def main():
-    parser = argparse.ArgumentParser(description=__doc__, formatter_class=argparse.RawDescriptionHelpFormatter)
+def main(words):
+    parser = parser_for(__doc__, "tools/tests.py --turn ./turn")
     parser.add_argument("--turn")
-    options = parser.parse_args()
+    options = parser.parse_args(words)
+    if options.turn and not shutil.which(options.turn):
+        raise Trouble(f"{options.turn}: there is no such program")
     tally = Tally()
     for test in (test_lengths, test_opcodes, test_paper_input, test_examples, test_garbage, test_damaged, test_vectors, test_errors,
                  test_raw_forms, test_names, test_programs, test_explain, test_shapes):
@@ -437,4 +436,4 @@ def main():
 
 
 if __name__ == "__main__":
-    sys.exit(main())
+    started(main)

@@ -1,13 +1,21 @@
 """The second pass: names become rows, labels become distances, and the input of `turn` comes out."""
 
+import difflib
+import re
+
+from .il_reading import is_il, read_il
 from .instructions import OPERAND_SIZE, TOKEN_TOP
 from .names import Names
-from .reading import split_member, read_text
-from .records import CLASS, CLASS_TYPE, ENTRY, FIELD, LOCAL, METHOD, PARAMETER, TYPES
-from .words import TextError, TextErrors, grouped, is_number, read_number, read_real, read_signed
+from .reading import Reference, read_text, split_member
+from .records import CLASS, CLASS_TYPE, ENTRY, FIELD, LOCAL, METHOD, MOST_TABLES, PARAMETER, SORTS, TYPES
+from .words import ErrorList, TextError, TextErrors, TooManyErrors, fitting, grouped, is_class_name, is_name, is_number, lines_of, read_number
+from .words import WORD_SHOWN, read_real, read_signed, shown
 
 VARIABLE_KIND = {"argument": PARAMETER, "local": LOCAL}
 WHOLE_BITS = {"int8": 8, "int32": 32, "int64": 64}
+WHAT = {FIELD: "field", METHOD: "method", PARAMETER: "argument", LOCAL: "local"}
+VIRTUAL = SORTS.index("virtual")
+NAMES_COMPARED = 500  # with an unknown one at most
 
 
 class Assembled:
@@ -20,121 +28,184 @@ class Assembled:
         self.code_lines = code_lines
 
 
+class UnknownName(TextError):
+    """A name that nothing in the text declares; `known` are the names that could stand there, `before` is the owner to show with it."""
+
+    def __init__(self, what, word, name, known, before=""):
+        near = difflib.get_close_matches(name[:WORD_SHOWN], known, 1) if len(known) <= NAMES_COMPARED else []
+        super().__init__(word, f"unknown {what} {shown(before + word)}" + (f"; is `{near[0]}` meant?" if near else ""))
+        self.name = name
+
+
 def assemble(text):
-    """Assembled bytes of a text; raises TextErrors."""
-    reading = read_text(text)
-    if reading.whole_input is not None:
-        return _assemble_input(reading)
-    encoding = Encoding(reading)
-    tables, record_lines = encoding.tables()
-    code, code_lines = encoding.code()
-    if encoding.errors:
-        raise TextErrors(encoding.errors)
-    announced = len(tables) if reading.announced is None else reading.announced
-    return Assembled(announced.to_bytes(2, "little") + tables + code, encoding.names(), record_lines, code_lines)
+    """Assembled bytes of a text in one of the two spellings; raises TextErrors with every error."""
+    lines, errors, assembled = lines_of(text), ErrorList(), None
+    try:
+        reading = read_il(lines, errors) if is_il(lines) else read_text(lines, errors)
+        assembled = _assemble_input(reading) if reading.whole_input else Encoding(reading).assembled()
+    except TooManyErrors:
+        pass
+    if errors.errors:
+        raise TextErrors(errors.errors, lines)
+    return assembled
 
 
 def _assemble_input(reading):
-    line, data = reading.whole_input
     if reading.records or reading.bodies or reading.announced is not None:
-        raise TextErrors([TextError(line, "`input` gives the whole input; nothing else can stand beside it")])
-    return Assembled(data, Names(), {}, {})
+        reading.errors.note(TextError(reading.whole_input.word, "`input` gives the whole input; nothing else can stand beside it"))
+    return Assembled(reading.whole_input.data, Names(), {}, {})
 
 
 class Encoding:
-    """A text read, with the rows of its fields and methods by owner and name."""
+    """A text read, with its fields and methods by owner and name."""
 
     def __init__(self, reading):
         self.reading = reading
-        self.errors = []
+        self.parents = {record.row: record.slots[0] for record in reading.records if record.kind == CLASS}
         self.members = {FIELD: {}, METHOD: {}}
         for record in reading.records:
             if record.kind in self.members:
                 self.attempt(self.declare, record)
 
-    def attempt(self, action, *arguments):
-        """Notes the error of a bad line, so that the lines after it are looked at too."""
+    def assembled(self):
+        """The whole input, with its names and lines."""
+        tables, record_lines = self.tables()
+        code, code_lines = self.code()
+        announced = len(tables) if self.reading.announced is None else self.reading.announced
+        length = min(announced, MOST_TABLES).to_bytes(2, "little")
+        return Assembled(length + tables + code, self.names(), record_lines, code_lines)
+
+    def attempt(self, action, *arguments, otherwise=0):
+        """What an action gives, or `otherwise` where it meets a bad word; a name that a bad line may have declared is passed over."""
         try:
             return action(*arguments)
+        except UnknownName as error:
+            if error.name not in self.reading.spoiled:
+                self.reading.errors.note(error)
         except TextError as error:
-            self.errors.append(error)
-            return b""
+            self.reading.errors.note(error)
+        return otherwise
 
     def declare(self, record):
-        """Notes a field or method under its owner and name."""
+        """Notes a field or method under its owner and name; ilasm tells those of one name apart by their types."""
         owner, name = record.slots[:2]
-        key = (self.class_row(owner, record.line), name)
-        if key in self.members[record.kind]:
-            what = "field" if record.kind == FIELD else "method"
-            raise TextError(record.line, f"duplicate {what} `{owner}.{name}`")
-        self.members[record.kind][key] = record.row
+        alike = self.members[record.kind].setdefault((self.class_row(owner), name), [])
+        if any(record.types is None or self.types_of(other) == self.types_of(record) for other in alike):
+            mark = "." if record.types is None else "::"
+            raise TextError(name, f"duplicate {WHAT[record.kind]} `{owner}{mark}{name}`")
+        alike.append(record)
 
-    def class_row(self, word, line, high=255):
+    def types_of(self, record):
+        """The types that tell a member from others of its name; None where one of them is bad, which its own line tells."""
+        try:
+            return [self.type_byte(word) for word in record.types]
+        except TextError:
+            return None
+
+    def class_row(self, word, high=255):
         """The row that a class name or `#ROW` stands for."""
         if word.startswith("#"):
-            return read_number(word[1:], 0, high, "row", line)
+            return read_number(word.cut(1), 0, high, "row")
         row = self.reading.classes.get(word)
         if row is None:
-            raise TextError(line, f"unknown class `{word}`")
-        return fitting(row, high, f"row of class `{word}`", line)
+            raise UnknownName("class", word, word, self.reading.classes)
+        return fitting(row, high, f"row of class `{word}`", word)
 
-    def member_row(self, kind, word, line, high=255):
-        """The row that OWNER.NAME or `#ROW` stands for, for a field or a method."""
+    def member_row(self, kind, word, high=255):
+        """The row that OWNER.NAME, a Reference or `#ROW` stands for, for a field or a method."""
+        if isinstance(word, Reference):
+            return self.referred_row(kind, word, high)
         if word.startswith("#") and "." not in word:
-            return read_number(word[1:], 0, high, "row", line)
-        owner, name = split_member(word, line)
-        row = self.members[kind].get((self.class_row(owner, line), name))
-        if row is None:
-            raise TextError(line, f"unknown {'field' if kind == FIELD else 'method'} `{word}`")
-        return fitting(row, high, f"row of `{word}`", line)
+            return read_number(word.cut(1), 0, high, "row")
+        owner, name = split_member(word)
+        found = self.members[kind].get((self.class_row(owner), name))
+        if not found:
+            raise UnknownName(WHAT[kind], word, name, self.member_names(kind, owner))
+        return fitting(found[0].row, high, f"row of `{word}`", word)
 
-    def type_byte(self, word, line):
+    def referred_row(self, kind, reference, high):
+        """The row of a member that ilasm's spelling names with its types."""
+        owner, name = reference.owner, reference.name
+        found = self.members[kind].get((self.class_row(owner), name))
+        if not found:
+            before = "Object::" if owner.startswith("#") and owner.quoted else f"{owner}::"
+            raise UnknownName(WHAT[kind], name, name, self.member_names(kind, owner), before)
+        wanted = reference.types and [self.type_byte(word) for word in reference.types]
+        fits = [record for record in found if wanted is None or self.types_of(record) in (wanted, None)]
+        if not fits:
+            types = [" ".join(record.types[:1]) + f" ({', '.join(record.types[1:])})" if kind == METHOD else record.types[0] for record in found]
+            raise TextError(name, f"{WHAT[kind]} `{owner}::{name}` has other types: {'; '.join(types)}")
+        return fitting(fits[0].row, high, f"row of `{owner}::{name}`", name)
+
+    def member_names(self, kind, owner):
+        """The names of the fields or methods of one class."""
+        row = self.class_row(owner)
+        return [name for (of, name), found in self.members[kind].items() if of == row and found]
+
+    def type_byte(self, word):
         """The byte of a type: a type's name, a class or `#BYTE`."""
         if word.startswith("#"):
-            return read_number(word[1:], 0, 255, "type", line)
+            return read_number(word.cut(1), 0, 255, "type")
         if word in TYPES:
             return TYPES.index(word)
         if word not in self.reading.classes:
-            raise TextError(line, f"unknown type `{word}`")
-        return CLASS_TYPE + self.class_row(word, line, 255 - CLASS_TYPE)
+            raise UnknownName("type", word, word, [*TYPES, *self.reading.classes])
+        return CLASS_TYPE + self.class_row(word, 255 - CLASS_TYPE)
 
     def tables(self):
         """The tables, and the line of each record by its offset."""
         data, lines = bytearray(), {}
         for record in self.reading.records:
-            lines[len(data)] = record.line
-            data += self.attempt(self.record_bytes, record)
-            if len(data) > 0xFFFF and self.reading.announced is None:
-                self.errors.append(TextError(record.line, "tables pass 65,535 bytes, more than two bytes of length can say"))
+            lines[len(data)] = record.word.line
+            data += self.record_bytes(record)
+            if len(data) > MOST_TABLES and self.reading.announced is None:
+                self.reading.errors.note(TextError(record.word, f"tables pass {grouped(MOST_TABLES)} bytes, more than two bytes of length can say"))
                 break
         return bytes(data), lines
 
     def record_bytes(self, record):
-        """The bytes of one record, kind first."""
+        """The bytes of one record, kind first; each bad word in it is noted."""
         if record.kind is None:
             return record.data
-        slots, line = record.slots, record.line
+        slots = record.slots
         if record.kind == CLASS:
-            body = [self.class_row(slots[0], line)]
+            body = [self.attempt(self.class_row, slots[0])]
         elif record.kind == FIELD:
-            body = [self.class_row(slots[0], line), slots[2], self.type_byte(slots[3], line)]
+            body = [self.owner_row(slots[0]), slots[2], self.attempt(self.type_byte, slots[3])]
         elif record.kind == METHOD:
             return self.method_bytes(record)
         elif record.kind == ENTRY:
-            body = [self.member_row(METHOD, slots[0], line)]
+            body = [self.attempt(self.member_row, METHOD, slots[0])]
         else:
-            body = [self.type_byte(slots[0], line)]
+            body = [self.attempt(self.type_byte, slots[0])]
         return bytes([record.kind] + body)
+
+    def owner_row(self, word):
+        """The row of an owner; a bad one was told where the member was declared."""
+        try:
+            return self.class_row(word)
+        except TextError:
+            return 0
 
     def method_bytes(self, record):
         """A method's record; without a part of its own choosing it names the code that follows it in the text."""
         owner, _, sort, returned, stack, overridden = record.slots
-        line = record.line
         offset, length = record.part or (record.body.start, record.body.length)
-        fitting(length, 0xFFFF, "code length", line)
-        fitting(offset, 0xFFFFFFFF, "code offset", line)
-        body = [self.class_row(owner, line), sort, self.type_byte(returned, line), stack, self.member_row(METHOD, overridden, line)]
+        length = self.attempt(fitting, length, 0xFFFF, "code length", record.word)
+        body = [self.owner_row(owner), sort, self.attempt(self.type_byte, returned), stack]
+        body.append(self.reused_row(record) if overridden is None else self.attempt(self.member_row, METHOD, overridden))
         return bytes([METHOD] + body) + offset.to_bytes(4, "little") + length.to_bytes(2, "little")
+
+    def reused_row(self, record):
+        """What a virtual method without `newslot` overrides, by ilasm's rule: the nearest ancestor's virtual method of its name and types."""
+        row, seen = self.owner_row(record.slots[0]), set()
+        while row in self.parents and row not in seen:
+            seen.add(row)
+            row = self.owner_row(self.parents[row])
+            for other in self.members[METHOD].get((row, record.slots[1]), []):
+                if other.slots[2] == VIRTUAL and self.types_of(other) == self.types_of(record):
+                    return min(other.row, 255)
+        return 0
 
     def code(self):
         """The code, with 00 where no line writes, and the line of each instruction by its offset in the code."""
@@ -143,10 +214,10 @@ class Encoding:
         for body in self.reading.bodies:
             for item in body.items:
                 start = body.start + item.offset
-                lines[start] = item.line
-                part = item.data if item.form is None else self.attempt(self.instruction_bytes, body, item)
-                if any(written[start:start + len(part)]):
-                    self.errors.append(TextError(item.line, f"code offset {start} is written already"))
+                lines[start] = item.word.line
+                part = item.data if item.form is None else self.attempt(self.instruction_bytes, body, item, otherwise=b"")
+                if written.find(1, start, start + len(part)) >= 0:
+                    self.reading.errors.note(TextError(item.word, f"code offset {start} is written already"))
                 written[start:start + len(part)] = b"\1" * len(part)
                 data[start:start + len(part)] = part
         return bytes(data), lines
@@ -157,75 +228,72 @@ class Encoding:
         if operand == "none":
             return item.form.opcode
         if operand in TOKEN_TOP:
-            value = self.token(operand, item)
+            value = self.token(operand, item.operand)
         elif operand in VARIABLE_KIND:
-            value = self.variable(VARIABLE_KIND[operand], body, item)
+            value = self.variable(VARIABLE_KIND[operand], body, item.operand)
         elif operand == "real":
-            value = read_real(item.word, item.line)
+            value = read_real(item.operand)
         elif operand in WHOLE_BITS:
-            value = read_signed(item.word, WHOLE_BITS[operand], f"the operand of `{item.form.mnemonic}`", item.line)
+            value = read_signed(item.operand, WHOLE_BITS[operand], f"the operand of `{item.word}`")
         else:
             value = self.distance(body, item, 8 * size)
         return item.form.opcode + (value % (1 << 8 * size)).to_bytes(size, "little")
 
-    def token(self, operand, item):
+    def token(self, operand, word):
         """A token by name, or as it stands after `#`."""
-        if item.word.startswith("#") and "." not in item.word:
-            return read_number(item.word[1:], 0, 0xFFFFFFFF, "token", item.line)
+        if not isinstance(word, Reference) and word.startswith("#") and "." not in word:
+            return read_number(word.cut(1), 0, 0xFFFFFFFF, "token")
         if operand == "class":
-            row = self.class_row(item.word, item.line, 0xFFFFFF)
+            row = self.class_row(word, 0xFFFFFF)
         else:
-            row = self.member_row(FIELD if operand == "field" else METHOD, item.word, item.line, 0xFFFFFF)
+            row = self.member_row(FIELD if operand == "field" else METHOD, word, 0xFFFFFF)
         return TOKEN_TOP[operand] << 24 | row
 
-    def variable(self, kind, body, item):
+    def variable(self, kind, body, word):
         """The number of an argument or local, by name or as a number."""
-        if is_number(item.word):
-            return read_number(item.word, 0, 255, "number", item.line)
+        if is_number(word):
+            return read_number(word, 0, 255, "number")
         named = body.member.named[kind] if body.member else {}
-        if item.word not in named:
-            raise TextError(item.line, f"unknown {'argument' if kind == PARAMETER else 'local'} `{item.word}`")
-        return fitting(named[item.word], 255, f"number of `{item.word}`", item.line)
+        if word not in named:
+            raise UnknownName(WHAT[kind], word, word, named)
+        return fitting(named[word], 255, f"number of `{word}`", word)
 
     def distance(self, body, item, bits):
         """The distance from the next instruction to a label, or the distance as a number."""
-        if is_number(item.word):
-            return read_signed(item.word, bits, "distance", item.line)
-        if item.word not in body.labels:
-            raise TextError(item.line, f"unknown label `{item.word}`")
-        distance = body.labels[item.word] - (item.offset + item.form.length)
+        word = item.operand
+        if is_number(word):
+            return read_signed(word, bits, "distance")
+        if word not in body.labels:
+            raise UnknownName("label", word, word, body.labels)
+        distance = body.labels[word] - (item.offset + item.form.length)
         if not -(1 << bits - 1) <= distance < 1 << bits - 1:
-            mnemonic = item.form.mnemonic
-            raise TextError(item.line, f"`{item.word}` is {distance} bytes away, too far for `{mnemonic}`; `{mnemonic[:-2]}` reaches it")
+            raise TextError(word, f"`{word}` is {distance} bytes away, too far for `{item.word}`; `{item.word[:-2]}` reaches it")
         return distance
 
     def names(self):
-        """The names of the text that the bytes don't hold."""
-        names = Names()
-        for name, row in self.reading.classes.items():
-            names.give("class", row, name)
-        for record in self.reading.records:
+        """The names of the text that the bytes don't hold, as the house's spelling can write them."""
+        names, reading = Names(), self.reading
+        for name, row in reading.classes.items():
+            give_name(names, "class", row, name, is_class_name)
+        for record in reading.records:
             if record.kind in self.members:
-                names.give("field" if record.kind == FIELD else "method", record.row, record.slots[1])
-        for body in self.reading.bodies:
+                give_name(names, WHAT[record.kind], record.row, record.slots[1])
+        for body in reading.bodies:
             row, start = (body.member.row, 0) if body.member else (0, body.start)
             for name, offset in body.labels.items():
-                if body.member or offset < body.length:
-                    names.give("label", (row, start + offset), name)
-        for member in self.reading.members:
-            self.variable_names(names, member)
+                if (body.member or offset < body.length) and not (reading.made_label and reading.made_label.match(name)):
+                    give_name(names, "label", (row, start + offset), name)
+        for member in reading.members:
+            for what, kind in VARIABLE_KIND.items():
+                for name, number in member.named[kind].items():
+                    if name != "this":
+                        give_name(names, what, (member.row, number), name)
         return names
 
-    def variable_names(self, names, member):
-        """The names of a method's arguments and locals."""
-        for what, kind in VARIABLE_KIND.items():
-            for name, number in member.named[kind].items():
-                if name != "this":
-                    names.give(what, (member.row, number), name)
 
-
-def fitting(value, high, what, line):
-    """The value, where it isn't too large for its place."""
-    if value > high:
-        raise TextError(line, f"{what}: {grouped(value)} doesn't fit, at most {grouped(high)} does")
-    return value
+def give_name(names, what, key, name, suits=is_name):
+    """Adds a name; one with letters that the house's names don't have gets underscores, `.ctor` loses its point."""
+    if not suits(name):
+        name = re.sub(r"\W", "_", name.lstrip("."))
+    if suits(name):
+        names.give(what, key, str(name))

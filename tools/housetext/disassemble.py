@@ -33,16 +33,18 @@ class Naming:
         count = sum(record.kind == CLASS for record in records)
         rows = {row: names.get("class", row) for row in range(1, count + 1)}
         self.classes = distinct({row: name if name and is_class_name(name) else None for row, name in rows.items()}, "C")
-        self.members = {FIELD: self.name_members(FIELD, "field", "f"), METHOD: self.name_members(METHOD, "method", "m")}
+        self.own = {FIELD: self.name_members(FIELD, "field", "f"), METHOD: self.name_members(METHOD, "method", "m")}
+        self.members = {kind: {row: f"{self.class_word(owner)}.{self.own[kind][row]}" for row, owner in enumerate(owners, 1)}
+                        for kind, owners in self.owners.items()}
 
     def name_members(self, kind, what, letter):
-        """OWNER.NAME for each row of a kind; own names are distinct within one owner."""
-        members = {}
-        for owner in set(self.owners[kind]):
-            rows = [row for row, of in enumerate(self.owners[kind], 1) if of == owner]
-            own = distinct({row: self.names.get(what, row) for row in rows}, letter)
-            members.update({row: f"{self.class_word(owner)}.{name}" for row, name in own.items()})
-        return members
+        """The own name for each row of a kind; names are distinct within one owner."""
+        own, rows_of = {}, {}
+        for row, owner in enumerate(self.owners[kind], 1):
+            rows_of.setdefault(owner, []).append(row)
+        for rows in rows_of.values():
+            own.update(distinct({row: self.names.get(what, row) for row in rows}, letter))
+        return own
 
     def class_word(self, row):
         """A class by its name, or `#ROW`."""
@@ -135,7 +137,7 @@ class Text:
         """A method with the parameters and locals after it and then its code, unless that was written before; and the next index."""
         offset, length = record.code_part()
         end = offset + length
-        own = 0 < length and end <= len(self.code) and not any(self.written[offset:end])
+        own = self.is_unwritten(offset, end)
         self.variables = Variables(self.naming, self.rows[METHOD], record.body[1])
         chunk = [self.line(record) + (self.at(offset) if own else f" part {offset} {length}")]
         while index < len(self.records) and self.records[index].kind in (PARAMETER, LOCAL):
@@ -147,6 +149,10 @@ class Text:
             labels = self.naming.names.labels(self.rows[METHOD])
             chunk += CodeLines(self.naming, self.code[offset:end], labels, self.variables).lines(0 if self.offsets else None)
         return chunk, index
+
+    def is_unwritten(self, start, stop):
+        """Whether a part of the code is there, has bytes, and no method before holds one of them."""
+        return start < stop <= len(self.code) and self.written.find(1, start, stop) < 0
 
     def at(self, offset):
         """Where code stands, if not after the code written last."""
@@ -203,6 +209,7 @@ class CodeLines:
         starts = {offset for offset, _ in self.items} | {len(code)}
         branches = [(offset, form) for offset, form in self.items if form and form.operand in ("near", "far")]
         self.targets = {offset: branch_target(form, code, offset) for offset, form in branches}
+        self.given = {offset: names for offset, names in given_labels.items() if offset in starts}
         self.labels = place_labels(starts, given_labels, {target for target in self.targets.values() if target in starts})
 
     def lines(self, first):
@@ -214,8 +221,7 @@ class CodeLines:
                 raw.clear()
             lines += [f"  {label}:" for label in self.labels.get(offset, [])]
             if form:
-                words = [form.mnemonic] + self.operand_words(form, offset)
-                lines.append("    " + " ".join(words) + self.beside(offset, first))
+                lines.append("    " + self.instruction_words(form, offset) + self.beside(offset, first))
             else:
                 raw += self.code[offset:offset + 1]
         return lines
@@ -229,6 +235,15 @@ class CodeLines:
         """The comment with an offset, where wanted."""
         return "" if first is None else f"  ; {first + offset}"
 
+    def instruction_words(self, form, offset):
+        """An instruction with its operand, or a byte where none stands."""
+        return " ".join([form.mnemonic] + self.operand_words(form, offset)) if form else f".byte {self.code[offset]:02X}"
+
+    def label_before(self, offset):
+        """The label at an offset or nearest before it; None where there is none."""
+        before = [place for place in self.labels if place <= offset]
+        return self.labels[max(before)][-1] if before else None
+
     def operand_words(self, form, offset):
         """The operand of an instruction in words; none where it has none."""
         raw = operand_bytes(form, self.code, offset)
@@ -239,13 +254,35 @@ class CodeLines:
         if form.operand in TOKEN_TOP:
             return [self.naming.token_word(form.operand, value)]
         if form.operand in ("argument", "local"):
-            kind = PARAMETER if form.operand == "argument" else LOCAL
-            return [self.variables.words[kind].get(value, str(value)) if self.variables else str(value)]
+            return [self.variable_word(PARAMETER if form.operand == "argument" else LOCAL, value)]
         if form.operand == "real":
-            return [write_real(value)]
+            return [self.real_word(value)]
         if offset in self.targets:
-            return [self.labels[self.targets[offset]][0] if self.targets[offset] in self.labels else f"{signed:+}"]
+            return [self.target_word(self.targets[offset]) or f"{signed:+}"]
         return [str(signed)]
+
+    def variable_word(self, kind, number):
+        """An argument or local by its name, or its number."""
+        return self.variables.words[kind].get(number, str(number)) if self.variables else str(number)
+
+    def real_word(self, bits):
+        """An F."""
+        return write_real(bits)
+
+    def target_word(self, target):
+        """The label of a place; None where it has none."""
+        return self.labels[target][0] if target in self.labels else None
+
+
+def record_words(tables, names):
+    """The whole records of tables, each with its line."""
+    text, words = Text(tables, b"", names, False), []
+    for record in text.records:
+        text.rows[record.kind] += 1
+        if record.kind == METHOD:
+            text.variables = Variables(text.naming, text.rows[METHOD], record.body[1])
+        words.append((record, text.line(record).strip()))
+    return words
 
 
 def decode(code):

@@ -3,15 +3,16 @@
 import re
 
 from .assemble import assemble
-from .disassemble import CodeLines, Text, Variables
-from .files import fail_on_bad_text, read_file, read_text_file
-from .meanings import CHECK, LOADING, MEANINGS, RUN
+from .disassemble import CodeLines, Text, Variables, record_words
+from .files import fail_on_bad_text, is_text_name, read_file, read_text_file
+from .meanings import CHECK, LOADING, MEANINGS, OTHER_SHAPE, RUN
 from .names import Names, read_names
 from .records import LOCAL, METHOD, PARAMETER, TYPES, split_input
 from .second_opinion import second_opinion
 from .words import BITS, write_real
 
 LINES_BEFORE = 3
+MOST_DIGITS = 20  # of a number in a line of `turn`
 
 
 class Source:
@@ -28,8 +29,8 @@ class Source:
 
 
 def read_source(name, names_file):
-    """The module of a file, with its names; a text, whose name ends in .turn, brings its own."""
-    if name.endswith(".turn"):
+    """The module of a file, with its names; a text, by the end of its name, brings its own."""
+    if is_text_name(name):
         with fail_on_bad_text(name):
             assembled = assemble(read_text_file(name))
         return Source(assembled.data, assembled.names, assembled.record_lines, assembled.code_lines)
@@ -45,7 +46,7 @@ def read_source(name, names_file):
 def read_answer(line):
     """The number, method, offset, steps and value of a line of `turn`; None where it isn't one."""
     words = line.split()
-    if len(words) != 5 or not all(word.isascii() and word.isdigit() for word in words[:4]):
+    if len(words) != 5 or not all(word.isascii() and word.isdigit() and len(word) <= MOST_DIGITS for word in words[:4]):
         return None
     return [int(word) for word in words[:4]] + words[4:]
 
@@ -81,12 +82,7 @@ def record_lines(source, offset):
     if offset >= len(source.tables):
         return [f"Place {offset}: the end of the tables."]
     line = f", line {source.record_lines[offset]} of the text" if offset in source.record_lines else ""
-    text = Text(source.tables, source.code, source.names, False)
-    for record in text.records:
-        text.rows[record.kind] += 1
-        if record.kind == METHOD:
-            text.variables = Variables(text.naming, text.rows[METHOD], record.body[1])
-        words = text.line(record).strip()
+    for record, words in record_words(source.tables, source.names):
         if record.offset == offset:
             return [f"Record at place {offset} of the tables{line}: {words}"]
     return [f"Record at place {offset} of the tables{line}: bytes {source.tables[offset:offset + 12].hex(' ').upper()}"]
@@ -101,23 +97,26 @@ def place_lines(source, method, offset):
     if offset >= len(code):
         return lines + [f"Offset {offset}: past the code, which has {len(code)} bytes."]
     where = f", line {source.code_lines[start + offset]} of the text" if start + offset in source.code_lines else ""
-    listing = CodeLines(source.naming, code, source.names.labels(method), variables_of(source, method))
+    listing = listing_of(source, method)
     index = next((index for index, (at, _) in enumerate(listing.items) if at == offset), None)
     if index is None:
         return lines + [f"Offset {offset}{where}: inside another instruction; read from there it is"] + inside_lines(source, code, offset)
     lines.append(f"Offset {offset}{where}:")
     for at, form in listing.items[max(0, index - LINES_BEFORE):index + 1]:
-        words = " ".join([form.mnemonic] + listing.operand_words(form, at)) if form else f".byte {code[at]:02X}"
-        lines.append(f"{'  ->' if at == offset else '    '} {at:5}  {words}")
+        lines.append(f"{'  ->' if at == offset else '    '} {at:5}  {listing.instruction_words(form, at)}")
     return lines
 
 
 def inside_lines(source, code, offset):
     """The instruction that stands at an offset inside another one."""
     listing = CodeLines(source.naming, code[offset:], {}, None)
-    form = listing.items[0][1]
-    words = " ".join([form.mnemonic] + listing.operand_words(form, 0)) if form else f".byte {code[offset]:02X}"
-    return [f"  -> {offset:5}  {words}"]
+    return [f"  -> {offset:5}  {listing.instruction_words(listing.items[0][1], 0)}"]
+
+
+def listing_of(source, method):
+    """The code of a method with its names."""
+    start, length = source.methods[method - 1].code_part()
+    return CodeLines(source.naming, source.code[start:start + length], source.names.labels(method), variables_of(source, method))
 
 
 def variables_of(source, method):
@@ -139,9 +138,40 @@ def stack_lines(source, number, method, offset):
         return []
     opinion = second_opinion(source.tables, source.code)
     if opinion is None:
-        return ["What stood on the stack is told where the second implementation is there."]
-    lines = opinion.check_lines(number, method, offset) if number in CHECK else opinion.run_lines(number, method, offset)
+        return ["What stood on the stack is told where loading takes the module and the second implementation is there."]
+    if number in RUN:
+        lines = opinion.run_lines(number, method, offset)
+    elif opinion.disagrees(number, method, offset):
+        lines = [opinion.disagrees(number, method, offset)]
+    else:
+        lines = opinion.found_lines() + (arrival_lines(source, opinion, method) if number == OTHER_SHAPE else opinion.wanted_lines())
     return [with_class_names(source, line) for line in lines]
+
+
+def arrival_lines(source, opinion, method):
+    """Of fault 16 the place, and both ways to it: the instruction that goes on there and the types that it brings."""
+    target, first, second = opinion.arrivals(method)
+    listing, places = listing_of(source, method), (first[0], second[0])
+    if first[0] is None:
+        first_words = "no earlier instruction goes there, so it begins with nothing"
+    else:
+        first_words = f"from {place_words(source, method, first[0])}: {first[1]}"
+    label = f"label {listing.labels[target][0]}, " if target in listing.labels else ""
+    lines = [f"Two shapes arrive at {label}{place_words(source, method, target)}: {first_words}; "
+             f"from {place_words(source, method, second[0])}: {second[1]}."]
+    forms = dict(listing.items)
+    for offset in places:
+        if offset is not None:
+            after = f", after label {listing.label_before(offset)}" if listing.label_before(offset) else ""
+            lines.append(f"  {place_words(source, method, offset)}{after}: {listing.instruction_words(forms[offset], offset)}")
+    return lines
+
+
+def place_words(source, method, offset):
+    """A place in a method: the line of the text, or the offset where there is no text."""
+    start = source.methods[method - 1].code_part()[0]
+    line = source.code_lines.get(start + offset)
+    return f"offset {offset}" if line is None else f"line {line}"
 
 
 def with_class_names(source, line):

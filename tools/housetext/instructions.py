@@ -1,7 +1,12 @@
-"""The instructions kept, with the mnemonics of ECMA-335, and the reading of one instruction.
+"""The one table of the instructions kept, with the mnemonics of ECMA-335, and the reading of one instruction.
 
-An operand kind says how the bytes after the opcode are written in the text. A new instruction is one more row in ROWS.
+The assembler, the disassembler and both spellings of the text read it. An operand kind says how the bytes after the opcode are written in
+the text. A new instruction is one more row in ROWS.
 """
+
+import difflib
+
+from .words import WORD_SHOWN, TextError, shown
 
 # How many bytes an operand of each kind has. `near` and `far` are the distances of short and long branches; class, field and method are
 # tokens.
@@ -61,6 +66,20 @@ ROWS = [
     (0xFE01, "none", "ceq cgt cgt.un clt clt.un"),
 ]
 
+# Other names that ECMA-335 has for an instruction.
+ALIASES = {"brnull": "brfalse", "brzero": "brfalse", "brinst": "brtrue", "brnull.s": "brfalse.s", "brzero.s": "brfalse.s", "brinst.s": "brtrue.s"}
+
+# Mnemonics of ECMA-335 that are not kept, so that a text which has them is told so.
+NOT_KEPT = set("""
+    add.ovf.un arglist box break calli ckfinite constrained. conv.i conv.i1 conv.i2 conv.ovf.i conv.ovf.i.un conv.ovf.i1 conv.ovf.i1.un
+    conv.ovf.i2 conv.ovf.i2.un conv.ovf.i4 conv.ovf.i4.un conv.ovf.i8 conv.ovf.i8.un conv.ovf.u conv.ovf.u.un conv.ovf.u1 conv.ovf.u1.un
+    conv.ovf.u2 conv.ovf.u2.un conv.ovf.u4 conv.ovf.u4.un conv.ovf.u8 conv.ovf.u8.un conv.r.un conv.r4 conv.u conv.u1 conv.u2 conv.u4 conv.u8
+    cpblk cpobj endfilter endfinally initblk initobj jmp ldarg ldarga ldarga.s ldc.r4 ldelem ldelema ldflda ldftn ldind.i ldind.i1 ldind.i2
+    ldind.i4 ldind.i8 ldind.r4 ldind.r8 ldind.ref ldind.u1 ldind.u2 ldind.u4 ldlen ldloc ldloca ldloca.s ldobj ldsflda ldstr ldtoken
+    ldvirtftn leave leave.s localloc mkrefany mul.ovf.un newarr refanytype refanyval rethrow sizeof starg stelem stind.i stind.i1 stind.i2
+    stind.i4 stind.i8 stind.r4 stind.r8 stind.ref stloc stobj sub.ovf.un switch tail. throw unaligned. unbox unbox.any volatile.
+""".split())
+
 
 class Form:
     """One instruction: its mnemonic, the bytes of its opcode and the kind of its operand."""
@@ -81,7 +100,18 @@ def _forms():
 
 BY_MNEMONIC = {form.mnemonic: form for form in _forms()}
 BY_OPCODE = {form.opcode: form for form in BY_MNEMONIC.values()}
+FORMS = BY_MNEMONIC | {alias: BY_MNEMONIC[mnemonic] for alias, mnemonic in ALIASES.items()}
 PREFIXES = {form.opcode[:1] for form in BY_MNEMONIC.values() if len(form.opcode) == 2}
+
+
+def form_of(word, others=()):
+    """The form of a mnemonic or of an alias; `others` are words that may be meant too."""
+    if word in FORMS:
+        return FORMS[word]
+    if word in NOT_KEPT:
+        raise TextError(word, f"`{word}` is an instruction of ECMA-335 that is not kept")
+    near = difflib.get_close_matches(word[:WORD_SHOWN], [*FORMS, *others], 1)
+    raise TextError(word, f"unknown mnemonic {shown(word)}" + (f"; is `{near[0]}` meant?" if near else ""))
 
 
 def read_instruction(code, offset):

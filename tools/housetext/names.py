@@ -4,7 +4,7 @@ Each line is one name: `class ROW NAME`, `field ROW NAME`, `method ROW NAME`, `a
 `local METHOD NUMBER NAME`, `label METHOD OFFSET NAME`. A label of code outside every method has METHOD 0 and its offset in the whole code.
 """
 
-from .words import TextError, TextErrors, is_name, lines_of, read_number
+from .words import ErrorList, TextError, TextErrors, TooManyErrors, is_name, lines_of, read_number, shown, words_of
 
 ONE_NUMBER = ("class", "field", "method")
 TWO_NUMBERS = ("argument", "local", "label")
@@ -16,11 +16,13 @@ class Names:
 
     def __init__(self):
         self.given = {what: {} for what in ONE_NUMBER + TWO_NUMBERS}
+        self.labels_of = {}
 
     def give(self, what, key, name):
         """Adds a name; a place in the code may have several labels, in their order, everything else has one name."""
         if what == "label":
             self.given[what].setdefault(key, []).append(name)
+            self.labels_of.setdefault(key[0], {}).setdefault(key[1], []).append(name)
         else:
             self.given[what][key] = name
 
@@ -30,7 +32,7 @@ class Names:
 
     def labels(self, method):
         """Offsets with their labels, of one method."""
-        return {offset: names for (row, offset), names in self.given["label"].items() if row == method}
+        return self.labels_of.get(method, {})
 
 
 def write_names(names):
@@ -47,24 +49,24 @@ def write_names(names):
 
 def read_names(text):
     """Names out of the text of a names file."""
-    names, errors = Names(), []
-    for line, content in lines_of(text):
-        words = content.split()
-        try:
+    names, errors, lines = Names(), ErrorList(), lines_of(text)
+    try:
+        for line, content in enumerate(lines, 1):
+            words = words_of(content, line)
             if words:
-                _read_name(names, words, line)
-        except TextError as error:
-            errors.append(error)
-    if errors:
-        raise TextErrors(errors)
+                errors.attempt(_read_name, names, words)
+    except TooManyErrors:
+        pass
+    if errors.errors:
+        raise TextErrors(errors.errors, lines)
     return names
 
 
-def _read_name(names, words, line):
+def _read_name(names, words):
     numbers = 1 if words[0] in ONE_NUMBER else 2
     if words[0] not in ONE_NUMBER + TWO_NUMBERS or len(words) != numbers + 2:
-        raise TextError(line, "a line of names is what is named, its one or two numbers and the name")
-    key = [read_number(word, 0, LARGEST, "row or number", line) for word in words[1:-1]]
+        raise TextError(words[0], "a line of names is what is named, its one or two numbers and the name")
+    key = [read_number(word, 0, LARGEST, "row or number") for word in words[1:-1]]
     if not is_name(words[-1]):
-        raise TextError(line, f"`{words[-1]}` is no name")
+        raise TextError(words[-1], f"{shown(words[-1])} is no name")
     names.give(words[0], key[0] if numbers == 1 else tuple(key), words[-1])

@@ -1,25 +1,29 @@
-"""The first pass over a text: each line becomes a record or a piece of code, rows and offsets are counted, names are noted."""
+"""The first pass over a text in the house's spelling: each line becomes a record or a piece of code, rows and offsets are counted."""
 
-import difflib
+import re
 
-from .instructions import BY_MNEMONIC
-from .records import CLASS, ENTRY, FIELD, FLAGS, LOCAL, METHOD, PARAMETER, SORTS, WITH_THIS, read_records
-from .words import TextError, TextErrors, is_class_name, is_name, lines_of, read_bytes, read_number
+from .instructions import form_of
+from .records import CLASS, ENTRY, FIELD, FLAGS, LOCAL, METHOD, MOST_CODE, PARAMETER, SORTS, WITH_THIS, read_records
+from .words import TextError, grouped, is_class_name, is_name, read_bytes, read_number, shown, words_of
 
-COMMENT = ";"
-
-# Code is not placed further out than this; a method can still name a part there.
-LARGEST_START = 0xFFFFFF
+CLASS_WORD = re.compile(r"[^:]+|:")
+PIECE_OF_NAME = re.compile(r"\w+")
+SKIPPED_SORT = 0
+WORDS_OF_A_NAME = 3  # a line declares what it does within these
 
 
 class RecordLine:
-    """A record as the text has it: the words of its slots, and its row among the records of its kind."""
+    """A record as the text has it: the words of its slots, the word that begins it, and its row among the records of its kind.
 
-    def __init__(self, kind, line, row, slots):
+    In ilasm's spelling a field or method is found by its types too: those of the field, or what a method returns and its parameters.
+    """
+
+    def __init__(self, kind, word, row, slots, types=None):
         self.kind = kind
-        self.line = line
+        self.word = word
         self.row = row
         self.slots = slots
+        self.types = types
 
 
 class RawLine:
@@ -27,9 +31,18 @@ class RawLine:
 
     kind = None
 
-    def __init__(self, line, data):
-        self.line = line
+    def __init__(self, word, data):
+        self.word = word
         self.data = data
+
+
+class Reference:
+    """A field or method as ilasm's spelling names it: its owner, its own name and its types."""
+
+    def __init__(self, owner, name, types):
+        self.owner = owner
+        self.name = name
+        self.types = types
 
 
 class Member:
@@ -40,13 +53,14 @@ class Member:
         self.counts = {PARAMETER: 1 if sort in WITH_THIS else 0, LOCAL: 0}
         self.named = {PARAMETER: {"this": 0} if sort in WITH_THIS else {}, LOCAL: {}}
 
-    def declare(self, kind, name, line):
+    def declare(self, kind, name):
         """Counts one parameter or local, and notes its name if it has one."""
+        number = self.counts[kind]
+        self.counts[kind] += 1
         if name is not None:
             if name in self.named[kind] or name == "this":
-                raise TextError(line, f"duplicate name `{name}`")
-            self.named[kind][name] = self.counts[kind]
-        self.counts[kind] += 1
+                raise TextError(name, f"duplicate name {shown(name)}")
+            self.named[kind][name] = number
 
 
 class Body:
@@ -59,28 +73,27 @@ class Body:
         self.items = []
         self.labels = {}
 
-    def add(self, item, length):
-        """Puts an item at the end."""
-        item.offset = self.length
-        self.items.append(item)
-        self.length += length
-
 
 class Item:
-    """One instruction with the word of its operand, or bytes given as they are."""
+    """One instruction with the word of its operand, or bytes given as they are; `word` begins it in the text."""
 
-    def __init__(self, line, form, word, data=None):
-        self.line = line
-        self.form = form
+    def __init__(self, word, form, operand, data=None):
         self.word = word
+        self.form = form
+        self.operand = operand
         self.data = data
         self.offset = 0
 
 
 class Reading:
-    """What the lines read so far have declared."""
+    """What the words read so far have declared. Names in bad lines are `spoiled`: nobody is told that they are unknown."""
 
-    def __init__(self):
+    # Where each instruction has a label made from its offset, those are no names that a writer gave.
+    made_label = None
+
+    def __init__(self, errors):
+        self.errors = errors
+        self.spoiled = set()
         self.records = []
         self.bodies = []
         self.rows = {CLASS: 0, FIELD: 0, METHOD: 0}
@@ -98,9 +111,9 @@ class Reading:
             self.rows[kind] += 1
         return self.rows.get(kind, 0)
 
-    def add_record(self, kind, line, slots):
+    def add_record(self, kind, word, slots):
         """Puts a record at the end of the tables."""
-        record = RecordLine(kind, line, self.next_row(kind), slots)
+        record = RecordLine(kind, word, self.next_row(kind), slots)
         self.records.append(record)
         return record
 
@@ -116,160 +129,187 @@ class Reading:
         self.bodies.append(self.body)
         return self.body
 
+    def add_label(self, name):
+        """A label at the end of the code read so far."""
+        if self.body is None:
+            raise TextError(name, f"label {shown(name)} stands outside code")
+        if name in self.body.labels:
+            raise TextError(name, f"duplicate label {shown(name)}")
+        self.body.labels[name] = self.body.length
 
-def read_text(text):
-    """A Reading of the whole text; raises TextErrors with every bad line."""
-    reading, errors = Reading(), []
-    for line, content in lines_of(text):
+    def add_item(self, item, length):
+        """Puts an instruction or bytes at the end of the code read so far."""
+        item.offset = self.body.length
+        self.body.items.append(item)
+        self.body.length += length
+        fitted = self.place <= MOST_CODE
+        self.place += length
+        if fitted and self.place > MOST_CODE:
+            raise TextError(item.word, f"code passes {grouped(MOST_CODE)} bytes here; a module has at most 32,768")
+
+    def spoil(self, words):
+        """Notes the names that bad words may declare."""
+        self.spoiled.update(piece for word in words for piece in PIECE_OF_NAME.findall(word))
+
+
+def read_text(lines, errors):
+    """A Reading of the lines of a text."""
+    reading = Reading(errors)
+    for line, content in enumerate(lines, 1):
+        words = words_of(content, line)
         try:
-            _read_line(reading, content.split(COMMENT)[0], line)
+            _read_words(reading, words)
         except TextError as error:
-            errors.append(error)
-    if errors:
-        raise TextErrors(errors)
+            reading.spoil(words[:WORDS_OF_A_NAME])
+            errors.note(error)
     return reading
 
 
-def _read_line(reading, content, line):
-    words = content.split()
+def _read_words(reading, words):
     while words and words[0].endswith(":"):
-        _read_label(reading, words.pop(0)[:-1], line)
+        _read_label(reading, words[0].cut(0, -1))
+        words = words[1:]
     if not words:
         return
     if words[0] in DIRECTIVES:
-        DIRECTIVES[words[0]](reading, words[1:], line)
+        DIRECTIVES[words[0]](reading, words)
     else:
-        _read_instruction(reading, words, line)
+        _read_instruction(reading, words)
 
 
-def _read_label(reading, name, line):
-    if reading.body is None:
-        raise TextError(line, f"label `{name}` stands outside code")
+def _read_label(reading, name):
     if not is_name(name):
-        raise TextError(line, f"`{name}` is no name for a label")
-    if name in reading.body.labels:
-        raise TextError(line, f"duplicate label `{name}`")
-    reading.body.labels[name] = reading.body.length
+        raise TextError(name, f"{shown(name)} is no name for a label")
+    reading.add_label(name)
 
 
-def _read_instruction(reading, words, line):
-    form = BY_MNEMONIC.get(words[0])
-    if form is None:
-        near = difflib.get_close_matches(words[0], [*BY_MNEMONIC, *DIRECTIVES], 1)
-        raise TextError(line, f"unknown mnemonic `{words[0]}`" + (f"; is `{near[0]}` meant?" if near else ""))
+def _read_instruction(reading, words):
+    form = form_of(words[0], DIRECTIVES)
     if reading.body is None:
-        raise TextError(line, f"`{words[0]}` stands outside code; a `method` without `part` or the word `code` begins code")
+        raise TextError(words[0], f"`{words[0]}` stands outside code; a `method` without `part` or the word `code` begins code")
     wanted = 1 if form.operand == "none" else 2
     if len(words) != wanted:
-        raise TextError(line, f"`{words[0]}` takes {'no operand' if wanted == 1 else 'one operand'}")
-    reading.body.add(Item(line, form, words[-1]), form.length)
-    reading.place += form.length
+        raise TextError(words[min(wanted, len(words) - 1)], f"`{words[0]}` takes {'no operand' if wanted == 1 else 'one operand'}")
+    reading.add_item(Item(words[0], form, words[-1]), form.length)
 
 
-def _read_class(reading, words, line):
-    words = " ".join(words).replace(":", " : ").split()
-    if len(words) not in (1, 3) or words[1:2] not in ([], [":"]):
-        raise TextError(line, "a class is written `class NAME` or `class NAME : PARENT`")
-    if not is_class_name(words[0]):
-        raise TextError(line, f"`{words[0]}` is no name for a class")
-    if words[0] in reading.classes:
-        raise TextError(line, f"duplicate class `{words[0]}`")
+def _read_class(reading, words):
+    pieces = [word.cut(found.start(), found.end()) for word in words[1:] for found in CLASS_WORD.finditer(word)]
+    if len(pieces) not in (1, 3) or pieces[1:2] not in ([], [":"]):
+        raise TextError(words[0], "a class is written `class NAME` or `class NAME : PARENT`")
+    name = pieces[0]
+    if not is_class_name(name):
+        raise TextError(name, f"{shown(name)} is no name for a class")
+    if name in reading.classes:
+        raise TextError(name, f"duplicate class `{name}`")
     reading.body = None
-    reading.classes[words[0]] = reading.add_record(CLASS, line, (words[2] if words[1:] else "#0",)).row
+    reading.classes[name] = reading.add_record(CLASS, words[0], (pieces[2] if pieces[1:] else name.saying("#0"),)).row
 
 
-def _read_field(reading, words, line):
-    if len(words) != 3:
-        raise TextError(line, "a field is written `field OWNER.NAME instance|static TYPE`")
-    owner, name = split_member(words[0], line)
+def _read_field(reading, words):
+    if len(words) != 4:
+        raise TextError(words[0], "a field is written `field OWNER.NAME instance|static TYPE`")
+    owner, name = split_member(words[1])
     reading.body = None
-    reading.add_record(FIELD, line, (owner, name, read_choice(words[1], FLAGS, "instance or static", line), words[2]))
+    reading.add_record(FIELD, words[0], (owner, name, read_choice(words[2], FLAGS, "instance or static"), words[3]))
 
 
-def _read_method(reading, words, line):
-    usage = "a method is written `method OWNER.NAME SORT TYPE stack N [overrides METHOD] [at OFFSET | part OFFSET LENGTH]`"
-    if len(words) < 5 or words[3] != "stack":
-        raise TextError(line, usage)
-    owner, name = split_member(words[0], line)
-    sort = read_choice(words[1], SORTS, "a sort", line)
-    stack = read_number(words[4], 0, 255, "max stack", line)
-    options = read_options(words[5:], {"overrides": 1, "at": 1, "part": 2})
-    if options is None or {"at", "part"} <= set(options):
-        raise TextError(line, usage)
-    part, start = None, read_start(options, line)
-    if "part" in options:
-        offset, length = options["part"]
-        part = (read_number(offset, 0, 0xFFFFFFFF, "code offset", line), read_number(length, 0, 0xFFFF, "code length", line))
-    record = reading.add_record(METHOD, line, (owner, name, sort, words[2], stack, options.get("overrides", ["#0"])[0]))
-    reading.begin_member(record.row, sort)
+def _read_method(reading, words):
+    """A method; after a bad line its code is read all the same, so that it is looked at too."""
+    try:
+        slots, part, start = _method_slots(words)
+    except TextError:
+        reading.begin_member(0, SKIPPED_SORT)
+        reading.begin_body(reading.member, None)
+        raise
+    record = reading.add_record(METHOD, words[0], slots)
+    reading.begin_member(record.row, slots[2])
     reading.body = None
     record.part = part
     record.body = reading.begin_body(reading.member, start) if part is None else None
 
 
+def _method_slots(words):
+    """Owner, name, sort, return type, max stack and overridden method; the part that the record names by itself; where its code goes."""
+    usage = "a method is written `method OWNER.NAME SORT TYPE stack N [overrides METHOD] [at OFFSET | part OFFSET LENGTH]`"
+    if len(words) < 6 or words[4] != "stack":
+        raise TextError(words[0], usage)
+    owner, name = split_member(words[1])
+    sort = read_choice(words[2], SORTS, "a sort")
+    stack = read_number(words[5], 0, 255, "max stack")
+    options = read_options(words[6:], {"overrides": 1, "at": 1, "part": 2})
+    if options is None or {"at", "part"} <= set(options):
+        raise TextError(words[0], usage)
+    part, start = None, read_start(options)
+    if "part" in options:
+        offset, length = options["part"]
+        part = (read_number(offset, 0, 0xFFFFFFFF, "code offset"), read_number(length, 0, 0xFFFF, "code length"))
+    overridden = options["overrides"][0] if "overrides" in options else words[0].saying("#0")
+    return (owner, name, sort, words[3], stack, overridden), part, start
+
+
 def _read_variable(kind):
-    def read(reading, words, line):
-        if len(words) not in (1, 2) or not all(is_name(word) for word in words[1:]):
-            raise TextError(line, "a parameter or local is written with its type and, if wanted, a name")
+    def read(reading, words):
+        if len(words) not in (2, 3) or not all(is_name(word) for word in words[2:]):
+            raise TextError(words[0], "a parameter or local is written with its type and, if wanted, a name")
+        reading.add_record(kind, words[0], (words[1],))
         if reading.member is not None:
-            reading.member.declare(kind, words[1] if words[1:] else None, line)
-        reading.add_record(kind, line, (words[0],))
+            reading.member.declare(kind, words[2] if words[2:] else None)
     return read
 
 
-def _read_entry(reading, words, line):
-    if len(words) != 1:
-        raise TextError(line, "an entry is written `entry METHOD`")
+def _read_entry(reading, words):
+    if len(words) != 2:
+        raise TextError(words[0], "an entry is written `entry METHOD`")
     reading.body = None
-    reading.add_record(ENTRY, line, (words[0],))
+    reading.add_record(ENTRY, words[0], (words[1],))
 
 
-def _read_record(reading, words, line):
+def _read_record(reading, words):
     """Bytes for the tables; the whole records in them count as rows, as a loader would count them."""
-    raw = RawLine(line, read_bytes(words, line))
+    raw = RawLine(words[0], read_bytes(words[1:]))
     for record in read_records(raw.data)[0]:
         row = reading.next_row(record.kind)
         if record.kind == METHOD:
             reading.begin_member(row, record.body[1])
         elif record.kind in (PARAMETER, LOCAL) and reading.member is not None:
-            reading.member.declare(record.kind, None, line)
+            reading.member.declare(record.kind, None)
     reading.body = None
     reading.records.append(raw)
 
 
-def _read_code(reading, words, line):
-    options = read_options(words, {"at": 1})
+def _read_code(reading, words):
+    options = read_options(words[1:], {"at": 1})
     if options is None:
-        raise TextError(line, "code of no method begins with `code` or `code at OFFSET`")
-    reading.begin_body(None, read_start(options, line))
+        raise TextError(words[0], "code of no method begins with `code` or `code at OFFSET`")
+    reading.begin_body(None, read_start(options))
 
 
-def _read_raw_code(reading, words, line):
+def _read_raw_code(reading, words):
     if reading.body is None:
-        raise TextError(line, "`.byte` stands outside code; `record` gives bytes of the tables")
-    data = read_bytes(words, line)
-    reading.body.add(Item(line, None, None, data), len(data))
-    reading.place += len(data)
+        raise TextError(words[0], "`.byte` stands outside code; `record` gives bytes of the tables")
+    data = read_bytes(words[1:])
+    reading.add_item(Item(words[0], None, None, data), len(data))
 
 
-def _read_announced(reading, words, line):
-    if len(words) != 1 or reading.announced is not None:
-        raise TextError(line, "`announced LENGTH` is written once at most")
-    reading.announced = read_number(words[0], 0, 0xFFFF, "announced length", line)
+def _read_announced(reading, words):
+    if len(words) != 2 or reading.announced is not None:
+        raise TextError(words[0], "`announced LENGTH` is written once at most")
+    reading.announced = read_number(words[1], 0, 0xFFFF, "announced length")
 
 
-def _read_input(reading, words, line):
+def _read_input(reading, words):
     if reading.whole_input is not None:
-        raise TextError(line, "`input` is written once at most")
-    reading.whole_input = (line, read_bytes(words, line))
+        raise TextError(words[0], "`input` is written once at most")
+    reading.whole_input = RawLine(words[0], read_bytes(words[1:]))
 
 
-def split_member(word, line):
+def split_member(word):
     """The owner and the own name out of `OWNER.NAME`."""
     owner, _, name = word.rpartition(".")
     if not is_name(name) or not (is_class_name(owner) or owner.startswith("#")):
-        raise TextError(line, f"`{word}` is no name of the form OWNER.NAME")
-    return owner, name
+        raise TextError(word, f"{shown(word)} is no name of the form OWNER.NAME")
+    return word.cut(0, len(owner)), word.cut(len(owner) + 1)
 
 
 def read_options(words, sizes):
@@ -282,17 +322,17 @@ def read_options(words, sizes):
     return None if words else options
 
 
-def read_start(options, line):
+def read_start(options):
     """The offset after `at`, or None."""
-    return read_number(options["at"][0], 0, LARGEST_START, "code offset", line) if "at" in options else None
+    return read_number(options["at"][0], 0, MOST_CODE, "code offset") if "at" in options else None
 
 
-def read_choice(word, choices, what, line):
+def read_choice(word, choices, what):
     """The number of a word in a list of choices, or the number after `#`."""
     if word.startswith("#"):
-        return read_number(word[1:], 0, 255, what, line)
+        return read_number(word.cut(1), 0, 255, what)
     if word not in choices:
-        raise TextError(line, f"`{word}` is not {what}")
+        raise TextError(word, f"{shown(word)} is not {what}")
     return choices.index(word)
 
 

@@ -14,6 +14,12 @@ FLAGS = ["instance", "static"]
 # A type byte of 32 + row is the class of that row.
 CLASS_TYPE = 32
 
+# No module has more than 8,192 bytes of tables and 32,768 of code. Larger ones can still be looked at: tables as long as two bytes of length
+# can say, and as many bytes of code.
+MOST_TABLES = 0xFFFF
+LARGEST_INPUT = 2 + MOST_TABLES + 0xFFFF
+MOST_CODE = LARGEST_INPUT - 2
+
 # Sorts whose argument 0 is `this`.
 WITH_THIS = (1, 2, 3)
 

@@ -27,28 +27,45 @@ class SecondOpinion:
         self.explanation = check.explain(self.module)
         self.run = lambda: step.run(self.module, [], BUDGET)
         self.shapes = lambda row: check.shapes(self.module, row)
+        self.find_arrivals = lambda row: check.arrivals(self.module, row)
         self.method_check = lambda row: check.MethodCheck(self.module, self.module.methods[row])
         self.Fault = check.Fault
 
-    def check_lines(self, number, method, offset):
-        """What stood on the stack at a fault of the check and what was wanted there."""
+    def disagrees(self, number, method, offset):
+        """What to say of a fault that isn't the one which the check finds; None where it is."""
         said = self.explanation
-        if (said.number, said.method, said.offset) != (number, method, offset):
-            return [f"The line is not what the check says of this module: that is {said.number} {said.method} {said.offset}."]
-        lines = [] if said.shape is None else [f"Found: {said.found}."]
-        return lines + [f"Wanted: {said.wanted}."]
+        if (said.number, said.method, said.offset) == (number, method, offset):
+            return None
+        return f"The line is not what the check says of this module: that is {said.number} {said.method} {said.offset}."
+
+    def found_lines(self):
+        """What stood on the stack at the fault of the check."""
+        return [] if self.explanation.shape is None else [f"Found: {self.explanation.found}."]
+
+    def wanted_lines(self):
+        """What was wanted at the fault of the check."""
+        return [f"Wanted: {self.explanation.wanted}."]
+
+    def arrivals(self, row):
+        """Of a fault 16 the target, and for both arrivals there the offset and the types; no offset where no earlier instruction arrives."""
+        found = self.find_arrivals(row)
+        return [found.target] + [(arrival.offset, self.types_words(arrival.shape)) for arrival in (found.first, found.second)]
+
+    def types_words(self, shape):
+        """Types from the bottom of the stack."""
+        return ", ".join(self.type_name(type) for type in shape) or "nothing"
 
     def found(self, row):
         """The offset of each instruction of a method and the types before it from the bottom, as far as the check of that method comes."""
         return [(instruction.offset, [self.type_name(type) for type in shape]) for instruction, shape in self.shapes(row)]
 
-    def fault_lines(self, row):
-        """The fault of a method, if it has one, and what was wanted there."""
+    def fault(self, row):
+        """The number, the offset and the words for what was wanted, of the fault of a method; None where it has none."""
         try:
             self.method_check(row).check()
         except self.Fault as fault:
-            return [f"Number {fault.number} at offset {fault.offset}. Wanted: {fault.wanted}."]
-        return []
+            return fault.number, fault.offset, fault.wanted
+        return None
 
     def run_lines(self, number, method, offset):
         """What stood on the running frame's stack where a run ended; nothing where the run had arguments or another budget."""

@@ -1,7 +1,7 @@
 """The shapes that the check finds: before each instruction the depth of the stack and the types on it."""
 
-from .disassemble import CodeLines
-from .explaining import variables_of, with_class_names
+from .explaining import arrival_lines, listing_of, with_class_names
+from .meanings import OTHER_SHAPE
 from .records import METHOD
 from .second_opinion import second_opinion
 
@@ -20,11 +20,20 @@ def shape_lines(source, row=None):
 
 def method_lines(source, opinion, row):
     """Offset, depth, instruction and types from the bottom, as far as the check of this method comes; then its fault, if it has one."""
-    start, length = source.methods[row - 1].code_part()
-    listing = CodeLines(source.naming, source.code[start:start + length], source.names.labels(row), variables_of(source, row))
+    listing = listing_of(source, row)
     forms = dict(listing.items)
     lines = [f"Method {row}: {source.naming.members[METHOD][row]}."]
     for offset, types in opinion.found(row):
-        words = " ".join([forms[offset].mnemonic] + listing.operand_words(forms[offset], offset))
-        lines.append(f"{offset:6} {len(types):3}  {words:30}  {', '.join(types)}".rstrip())
-    return [with_class_names(source, line) for line in lines + opinion.fault_lines(row)]
+        lines.append(f"{offset:6} {len(types):3}  {listing.instruction_words(forms[offset], offset):30}  {', '.join(types)}".rstrip())
+    return [with_class_names(source, line) for line in lines + fault_lines(source, opinion, row)]
+
+
+def fault_lines(source, opinion, row):
+    """The fault of a method, if it has one, and what was wanted there; of two shapes at one place, both ways to it."""
+    fault = opinion.fault(row)
+    if fault is None:
+        return []
+    number, offset, wanted = fault
+    if number == OTHER_SHAPE:
+        return [f"Number {number} at offset {offset}."] + arrival_lines(source, opinion, row)
+    return [f"Number {number} at offset {offset}. Wanted: {wanted}."]
