@@ -1,4 +1,5 @@
-/* A host program: checks a module file, runs it, says numbers in words, and reads the state that a run reached. */
+/* A host program: checks a module file, runs it, says numbers in words, reads the state that a run reached, and asks for the types that the check
+ * found on the stack. */
 #include <inttypes.h>
 #include <stdio.h>
 #include "loitsupar.h"
@@ -13,7 +14,7 @@ static const int64_t arguments[] = {44, -2};
 static void show_state(const struct loitsupar_state *s) {
   for (uint64_t frame = 0; frame < s->live; frame++) {
     printf("  frame of method %" PRIu64 ", stack:", s->methods[frame]);
-    for (uint64_t i = 0; i < s->heights[frame]; i++) printf(" %" PRId32, (int32_t)(uint32_t)s->stacks[frame][i]);
+    for (uint64_t i = 0; i < s->heights[frame]; i++) printf(" %" PRId64, (int64_t)s->stacks[frame][i]);
     printf("\n");
   }
 }
@@ -23,7 +24,7 @@ static void check_then_run(const char *name, const void *file, size_t length, ui
   struct loitsupar_answer a;
   uint32_t ending = loitsupar_check_then_run(file, length, arguments, 2, budget, &a, NULL);
   printf("%s: %" PRIu32 ", %s; method %" PRIu64 ", offset %" PRIu64 ", %" PRIu64 " steps", name, ending, loitsupar_words(ending), a.method, a.offset, a.steps);
-  if (a.sort == LOITSUPAR_INT32) printf(", value %" PRId32, (int32_t)(uint32_t)a.bits);
+  if (a.sort == LOITSUPAR_INT32) printf(", value %" PRId64, (int64_t)a.bits);
   printf("\n");
 }
 
@@ -38,6 +39,20 @@ static void run(const char *name, const void *file, size_t length, uint64_t budg
   show_state(&s);
 }
 
+/* The types on the stack before an instruction of method 1. */
+static void tell(const char *name, const void *file, size_t length, uint64_t offset) {
+  struct loitsupar_module module;
+  struct loitsupar_shape s = {0, 0, {0}};
+  if (loitsupar_split(file, length, &module) != LOITSUPAR_FINE) return;
+  uint32_t number = loitsupar_tell_module(&module, 1, offset, NULL, &s);
+  printf("%s, before offset %" PRIu64 ":", name, offset);
+  if (number != LOITSUPAR_FINE) printf(" %" PRIu32 ", %s", number, loitsupar_words(number));
+  else if (!s.starts) printf(" no instruction starts there");
+  else printf(" depth %" PRIu64, s.depth);
+  for (uint64_t i = 0; i < s.depth; i++) printf("%s", s.types[i] == LOITSUPAR_INT32 ? ", int32" : ", another type");
+  printf("\n");
+}
+
 /* What isn't given, or is given too small, is told. */
 static void misuse(void) {
   struct loitsupar_fault f = {7, 7, 7};
@@ -48,6 +63,8 @@ static void misuse(void) {
          loitsupar_check_then_run(sum, sizeof sum, NULL, 2, 100, NULL, NULL));
   printf("two cells for a fault: %" PRIu32, loitsupar_check(sum + 2, 20, sum + 22, 4, cells, 2));
   printf(", and they are %" PRIu64 " %" PRIu64 "\n", cells[0], cells[1]);
+  printf("two cells for a shape: %" PRIu32, loitsupar_tell(sum + 2, 20, sum + 22, 4, 1, 0, (uint64_t *)&f, LOITSUPAR_FAULT_CELLS, cells, 2));
+  printf(", and the fault is %" PRIu64 " %" PRIu64 " %" PRIu64 "\n", f.number, f.method, f.offset);
 }
 
 int main(void) {
@@ -59,6 +76,10 @@ int main(void) {
   check_then_run("half a file", sum, 12, 100);
   run("sum, budget 2", sum, sizeof sum, 2);
   run("too_many", too_many, sizeof too_many, 100);
+  tell("sum", sum, sizeof sum, 2);
+  tell("sum", sum, sizeof sum, 3);
+  tell("sum", sum, sizeof sum, 4);
+  tell("too_many", too_many, sizeof too_many, 3);
   misuse();
   return 0;
 }

@@ -1,13 +1,16 @@
 #!/usr/bin/env python3
-"""example.py LIBRARY MODULE [ARGUMENT ...]: a host in Python. Checks a module file with the shared library that host/build makes, and runs it.
+"""example.py LIBRARY MODULE [ARGUMENT ...]: a host in Python. Checks a module file with the shared library that host/build makes, runs it, and
+says which types the check found on the stack where the run ended.
 
 The status is 0 where the run ends 0, 1 with another number, 2 where something can't be read.
 """
 
 import ctypes
+import signal
 import sys
 
-FAULT_CELLS, ANSWER_CELLS, STATE_CELLS = 3, 6, 5314
+FAULT_CELLS, ANSWER_CELLS, STATE_CELLS, SHAPE_CELLS = 3, 6, 5314, 34
+TYPES, CLASS = {0: "null", 1: "int32", 2: "int64", 3: "F"}, 32
 MOST_TABLES, MOST_CODE = 8192, 32768
 TOO_LONG, CUT_SHORT = 1, 9
 BUDGET = 100_000
@@ -45,6 +48,15 @@ def run(library, tables, code, arguments, budget=BUDGET):
     return list(answer), list(state)
 
 
+def tell(library, tables, code, row, offset):
+    """The types that the check found before an instruction, the bottom first; None where it has a fault or no instruction starts there."""
+    fault, shape = (ctypes.c_uint64 * FAULT_CELLS)(), (ctypes.c_uint64 * SHAPE_CELLS)()
+    library.loitsupar_tell(tables, sized(len(tables)), code, sized(len(code)), ctypes.c_uint64(row), ctypes.c_uint64(offset),
+                           fault, sized(FAULT_CELLS), shape, sized(SHAPE_CELLS))
+    starts, depth, *types = shape
+    return [TYPES.get(cell, f"class {cell - CLASS}") for cell in types[:depth]] if starts else None
+
+
 def main(words):
     if len(words) < 2 or "--help" in words:
         print(__doc__)
@@ -68,8 +80,12 @@ def main(words):
         return 1
     answer, _ = run(library, *parts, arguments)
     print("run:", *answer)
+    types = tell(library, *parts, *answer[1:3])
+    if types is not None:
+        print("found there:", ", ".join(types) or "nothing")
     return 1 if answer[0] else 0
 
 
 if __name__ == "__main__":
+    signal.signal(signal.SIGPIPE, signal.SIG_DFL)  # a reader that goes away ends it without a word, as it ends a program in C
     sys.exit(main(sys.argv[1:]))

@@ -12,10 +12,10 @@ use lib.Seq.{drop-cons, getD-drop}
 use native.Mathlib.Nat.{add-zero}
 use Rattle.model.specs.Answer.{onlyIf, mapOption}
 use Rattle.model.specs.Loading.{little}
-use Rattle.model.specs.Code.{Ins, Jump, jump, target, Form, bare, short, long, double, near, far, second, lengthOf, instructions, afterFE, formOf, asForm, fullForm, andThen, Decoded, decodeByte, decodeAt, decode}
+use Rattle.model.specs.Code.{Ins, Jump, jump, target, Form, bare, short, long, double, near, far, second, lengthOf, instructions, afterFE, formOf, asForm, fullForm, andThen, Decoded, decodeByte, decodeAt, decode, sizeOf, lengthBy}
 use Rattle.code.specs.Insn.{withOperand, meant}
 use Rattle.code.proofs.Bytes.{one}
-use Rattle.code.proofs.Forms.{size, sizeBy, isSecond, isBare, sizes, not-second, after-bare, length-FE, form-FE}
+use Rattle.code.proofs.Forms.{isSecond, isBare, not-second, after-bare, length-FE, form-FE}
 
 -- the bytes after the opcode
 abbrev pub rest : List ℕ → ℕ → List ℕ
@@ -33,8 +33,8 @@ past code o h = rw (drop-of-length-le code h)
 unfoldable pub said : Option Form → List ℕ → ℕ → Option Decoded
 said F r next = andThen F (λ f. andThen (fullForm f r) (λ g. mapOption (λ i. record { ins = i; next = next }) (asForm g r next)))
 
-said-plain : (F : Option Form) (r : List ℕ) (next : ℕ) → isSecond F ≡ false → said F r next ≡ mapOption (meant (little (sizeBy F - 1) r) next) F
-unfolding said isSecond sizeBy size andThen fullForm mapOption asForm meant withOperand
+said-plain : (F : Option Form) (r : List ℕ) (next : ℕ) → isSecond F ≡ false → said F r next ≡ mapOption (meant (little (lengthBy F - 1) r) next) F
+unfolding said isSecond lengthBy sizeOf andThen fullForm mapOption asForm meant withOperand
 said-plain none r next e = refl
 said-plain (some (bare i)) r next e = refl
 said-plain (some (short f)) r next e = refl
@@ -117,55 +117,55 @@ module _ (code : List ℕ) (o : ℕ) (inside : o < length code) where
     -- every byte but FE
     pub plainly : (getD code o 0 ≡ 0xFE → ⊥) → o + lengthOf (getD code o 0) ≤ length code
         → decode code o ≡ mapOption (meant (little (lengthOf (getD code o 0) - 1) (rest code o)) (o + lengthOf (getD code o 0))) (formOf instructions (getD code o 0))
+    unfolding lengthOf
     plainly e h =
         whole h
         ∙ said-plain (formOf instructions (getD code o 0)) (rest code o) (o + lengthOf (getD code o 0)) (not-second (getD code o 0) byte e)
-        ∙ ap (λ (s : ℕ). mapOption (meant (little (s - 1) (rest code o)) (o + lengthOf (getD code o 0))) (formOf instructions (getD code o 0))) (sizes (getD code o 0) byte)
 
     -- the length of an instruction of a form
-    pub length-by : (f : Form) → formOf instructions (getD code o 0) ≡ some f → lengthOf (getD code o 0) ≡ size f
-    unfolding sizeBy
-    length-by f e = sym (sizes (getD code o 0) byte) ∙ ap sizeBy e
+    pub length-by : (f : Form) → formOf instructions (getD code o 0) ≡ some f → lengthOf (getD code o 0) ≡ sizeOf f
+    unfolding lengthOf lengthBy
+    length-by f e = ap lengthBy e
 
     -- an instruction of a form that is not FE's, where the bytes suffice
-    pub by-form : (f : Form) → formOf instructions (getD code o 0) ≡ some f → isSecond (some f) ≡ false → o + size f ≤ length code
-        → decode code o ≡ some (meant (little (size f - 1) (rest code o)) (o + size f) f)
-    unfolding sizeBy mapOption
+    pub by-form : (f : Form) → formOf instructions (getD code o 0) ≡ some f → isSecond (some f) ≡ false → o + sizeOf f ≤ length code
+        → decode code o ≡ some (meant (little (sizeOf f - 1) (rest code o)) (o + sizeOf f) f)
+    unfolding lengthBy mapOption
     by-form f e n h =
         whole (rw (length-by f e) h)
         ∙ ap (λ (k : ℕ). said (formOf instructions (getD code o 0)) (rest code o) (o + k)) (length-by f e)
-        ∙ ap (λ (F : Option Form). said F (rest code o) (o + size f)) e
-        ∙ said-plain (some f) (rest code o) (o + size f) n
+        ∙ ap (λ (F : Option Form). said F (rest code o) (o + sizeOf f)) e
+        ∙ said-plain (some f) (rest code o) (o + sizeOf f) n
 
     -- and where they don't
-    pub too-short : (f : Form) → formOf instructions (getD code o 0) ≡ some f → length code < o + size f → decode code o ≡ none
+    pub too-short : (f : Form) → formOf instructions (getD code o 0) ≡ some f → length code < o + sizeOf f → decode code o ≡ none
     too-short f e h = cut (rw (length-by f e) h)
 
     pub bare-at : (i : Ins) → formOf instructions (getD code o 0) ≡ some (bare i) → decode code o ≡ some (record { ins = i; next = o + 1 })
-    unfolding isSecond size meant withOperand
+    unfolding isSecond sizeOf meant withOperand
     bare-at i e = by-form (bare i) e refl (omega arith)
 
     pub short-at : (f : ℕ → Ins) → formOf instructions (getD code o 0) ≡ some (short f) → o + 2 ≤ length code
         → decode code o ≡ some (record { ins = f (little 1 (rest code o)); next = o + 2 })
-    unfolding isSecond size meant withOperand
+    unfolding isSecond sizeOf meant withOperand
     short-at f e h = by-form (short f) e refl h
 
     pub long-at : (f : ℕ → Ins) → formOf instructions (getD code o 0) ≡ some (long f) → o + 5 ≤ length code
         → decode code o ≡ some (record { ins = f (little 4 (rest code o)); next = o + 5 })
-    unfolding isSecond size meant withOperand
+    unfolding isSecond sizeOf meant withOperand
     long-at f e h = by-form (long f) e refl h
 
     pub double-at : (f : ℕ → Ins) → formOf instructions (getD code o 0) ≡ some (double f) → o + 9 ≤ length code
         → decode code o ≡ some (record { ins = f (little 8 (rest code o)); next = o + 9 })
-    unfolding isSecond size meant withOperand
+    unfolding isSecond sizeOf meant withOperand
     double-at f e h = by-form (double f) e refl h
 
     pub near-at : (j : Jump) → formOf instructions (getD code o 0) ≡ some (near j) → o + 2 ≤ length code
         → decode code o ≡ some (record { ins = jump j (target 0x100 (o + 2) (little 1 (rest code o))); next = o + 2 })
-    unfolding isSecond size meant withOperand
+    unfolding isSecond sizeOf meant withOperand
     near-at j e h = by-form (near j) e refl h
 
     pub far-at : (j : Jump) → formOf instructions (getD code o 0) ≡ some (far j) → o + 5 ≤ length code
         → decode code o ≡ some (record { ins = jump j (target 0x100000000 (o + 5) (little 4 (rest code o))); next = o + 5 })
-    unfolding isSecond size meant withOperand
+    unfolding isSecond sizeOf meant withOperand
     far-at j e h = by-form (far j) e refl h

@@ -9,27 +9,12 @@ use lib.Dec.{T, leb, eqb, eqb→eq}
 use borrow.Author.Tests.{ne-eqb, le-leb, lt-leb}
 use Rattle.model.specs.Answer.{pick, isNone}
 use Rattle.model.specs.Loading.{within}
-use Rattle.model.specs.Code.{Form, bare, short, long, double, near, far, second, Kept, _to_, among, kept, ofTwo, ofFive, ofNine, lengthOf, _is_, op, un, const, branches, loads, operators, objects, instructions, afterFE, formOf}
+use Rattle.model.specs.Code.{Form, bare, short, long, double, near, far, second, Kept, sizeOf, lengthBy, lengthOf, _is_, op, un, const, branches, loads, operators, objects, instructions, afterFE, formOf}
 use Rattle.code.specs.Insn.{Length, no-bytes, one-byte, two-bytes, five-bytes, nine-bytes}
 use Rattle.code.proofs.Table.{under, both, both-left, both-right}
 
--- the bytes of an instruction of a form
-unfoldable pub size : Form → ℕ
-size (bare i) = 1
-size (short f) = 2
-size (long f) = 5
-size (double f) = 9
-size (near j) = 2
-size (far j) = 5
-size second = 2
-
--- 0 where there is none
-unfoldable pub sizeBy : Option Form → ℕ
-sizeBy none = 0
-sizeBy (some f) = size f
-
-sized : (f : Form) → 0 < size f
-unfolding size
+sized : (f : Form) → 0 < sizeOf f
+unfolding sizeOf
 sized (bare i) = omega arith
 sized (short f) = omega arith
 sized (long f) = omega arith
@@ -38,27 +23,30 @@ sized (near j) = omega arith
 sized (far j) = omega arith
 sized second = omega arith
 
-no-size : (F : Option Form) → sizeBy F ≡ 0 → F ≡ none
-unfolding sizeBy
+no-size : (F : Option Form) → lengthBy F ≡ 0 → F ≡ none
+unfolding lengthBy
 no-size none e = refl
 no-size (some f) e = absurd (omega (arith, sized f))
 
-a-size : (F : Option Form) → (sizeBy F ≡ 0 → ⊥) → T (not (isNone F))
-unfolding sizeBy isNone
+a-size : (F : Option Form) → (lengthBy F ≡ 0 → ⊥) → T (not (isNone F))
+unfolding lengthBy isNone
 a-size none h = h refl
 a-size (some f) h = tt
 
 -- the lengths that there are
 pub a-length : (b : ℕ) → Length (lengthOf b)
-unfolding lengthOf pick
-a-length b = cases (among ofTwo b) (among ofFive b) (among ofNine b) (among kept b)
+unfolding lengthOf lengthBy sizeOf
+a-length b = cases (formOf instructions b)
   where
-    cases : (t f n k : Bool) → Length (pick t 2 (pick f 5 (pick n 9 (pick k 1 0))))
-    cases true f n k = two-bytes
-    cases false true n k = five-bytes
-    cases false false true k = nine-bytes
-    cases false false false true = one-byte
-    cases false false false false = no-bytes
+    cases : (f : Option Form) → Length (lengthBy f)
+    cases none = no-bytes
+    cases (some (bare i)) = one-byte
+    cases (some (short f)) = two-bytes
+    cases (some (long f)) = five-bytes
+    cases (some (double f)) = nine-bytes
+    cases (some (near j)) = two-bytes
+    cases (some (far j)) = five-bytes
+    cases (some second) = two-bytes
 
 pub longest : {n : ℕ} → Length n → n < 10
 longest no-bytes = omega arith
@@ -89,20 +77,14 @@ isSecond (some (near j)) = false
 isSecond (some (far j)) = false
 isSecond (some second) = true
 
--- one test over all first bytes
-unfoldable agrees : ℕ → Bool
-agrees b = eqb (sizeBy (formOf instructions b)) (lengthOf b)
-
-pub sizes : (b : ℕ) → b < 256 → sizeBy (formOf instructions b) ≡ lengthOf b
-unfolding agrees size sizeBy pick within _to_ among kept ofTwo ofFive ofNine lengthOf _is_ op un const branches loads operators objects instructions formOf
-sizes b h = eqb→eq (sizeBy (formOf instructions b)) (lengthOf b) (under agrees 256 tt b h)
-
 -- a byte is not kept where its length is 0
-pub not-kept : (b : ℕ) → b < 256 → lengthOf b ≡ 0 → formOf instructions b ≡ none
-not-kept b h e = no-size (formOf instructions b) (sizes b h ∙ e)
+pub not-kept : (b : ℕ) → lengthOf b ≡ 0 → formOf instructions b ≡ none
+unfolding lengthOf
+not-kept b e = no-size (formOf instructions b) e
 
-pub is-kept : (b : ℕ) → b < 256 → (lengthOf b ≡ 0 → ⊥) → T (not (isNone (formOf instructions b)))
-is-kept b h e = a-size (formOf instructions b) (λ z. e (sym (sizes b h) ∙ z))
+pub is-kept : (b : ℕ) → (lengthOf b ≡ 0 → ⊥) → T (not (isNone (formOf instructions b)))
+unfolding lengthOf
+is-kept b e = a-size (formOf instructions b) e
 
 -- FE alone has its form
 unfoldable alone : ℕ → Bool
@@ -120,7 +102,7 @@ unfolding alone isSecond pick _is_ op un const branches loads operators objects 
 not-second b h e = otherwise (eqb b 0xFE) (isSecond (formOf instructions b)) (under alone 256 tt b h) (ne-eqb b 0xFE e)
 
 pub length-FE : lengthOf 0xFE ≡ 2
-unfolding pick within _to_ among ofTwo lengthOf
+unfolding pick _is_ op un const branches loads operators objects instructions formOf sizeOf lengthBy lengthOf
 length-FE = refl
 
 pub form-FE : formOf instructions 0xFE ≡ some second

@@ -8,3 +8,4 @@ pub mod Decoding
 pub mod Onward
 pub mod Sizes
 pub mod Reading
+pub mod There

@@ -64,4 +64,4 @@ module _ (code : List ℕ) (o : ℕ) (d : Decoded) (e : decode code o ≡ some d
       go true h = omega (arith, ltb-true 0 (lengthOf (getD code o 0)) h)
       go false h =
           let z : lengthOf (getD code o 0) ≡ 0 = omega (arith, ltb-false 0 (lengthOf (getD code o 0)) h) in
-          absurd (clash d (sym (unknown code o inside (not-kept (getD code o 0) byte z)) ∙ e))
+          absurd (clash d (sym (unknown code o inside (not-kept (getD code o 0) z)) ∙ e))

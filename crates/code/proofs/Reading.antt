@@ -75,4 +75,4 @@ module _ (code : List ℕ) (o s : ℕ) (size-known : s ≡ sizeAt code o) (some-
   known-plain n byte e v =
       rw (v, by-length)
       (plainly code o inside byte e (omega (arith, within, by-length))
-      ∙ sym (read-as (getD code o 0) _ _ (formOf instructions (getD code o 0)) (by-byte (getD code o 0) byte) (is-kept (getD code o 0) byte (λ z. omega (arith, by-length)))))
+      ∙ sym (read-as (getD code o 0) _ _ (formOf instructions (getD code o 0)) (by-byte (getD code o 0) byte) (is-kept (getD code o 0) (λ z. omega (arith, by-length)))))

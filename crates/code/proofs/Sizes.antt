@@ -59,9 +59,9 @@ module _ (code : List ℕ) (o : ℕ) where
     plain-size byte ne = go s refl
       where
         go : (n : ℕ) → s ≡ n → s ≡ sizeAt code o
-        go zero e = e ∙ sym (size-none (unknown code o inside (not-kept (getD code o 0) byte (sym by-length ∙ e))))
+        go zero e = e ∙ sym (size-none (unknown code o inside (not-kept (getD code o 0) (sym by-length ∙ e))))
         go (suc n) e =
-            let kept = is-kept (getD code o 0) byte (λ z. omega (arith, by-length)) in
+            let kept = is-kept (getD code o 0) (λ z. omega (arith, by-length)) in
             let size = by-form (formOf instructions (getD code o 0)) _ _ (plainly code o inside byte ne (omega (arith, by-length))) kept in
             by-length ∙ sym (size ∙ add-sub-cancel-left o _)
 

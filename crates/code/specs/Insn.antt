@@ -1,7 +1,7 @@
 -- What an instruction as it is read means.
 use Prim.Native.Nat.{ℕ, _-_}
 use mathlib.Core.List.{List}
-use mathlib.Core.Option.{Option, none, some}
+use mathlib.Core.Option.{Option}
 use lib.Dec.{ltb}
 use Rattle.model.specs.Answer.{pick, orElse, mapOption}
 use Rattle.model.specs.Code.{Ins, plain, nop, jump, Form, bare, short, long, double, near, far, second, instructions, afterFE, formOf, target, Decoded, decode}

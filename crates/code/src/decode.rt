@@ -5,9 +5,9 @@ ghost use Prim.Native.Nat.{_+_, _-_, _≤_, _<_};
 ghost use lib.ListN.{length, getD};
 ghost use Rattle.model.specs.Code.{decode, lengthOf};
 ghost use Rattle.model.specs.Loading.{little};
+ghost use Rattle.code.specs.Lengths.{Lengths};
 ghost use Rattle.code.specs.Insn.{Length, insOf, sizeAt};
 use super::insn::Insn;
-use super::lengths::quick_length;
 use super::little::eight;
 use super::little::four;
 use super::little::one;
@@ -48,12 +48,20 @@ fn kept_size(code: &[u8], at: usize, size: usize) -> usize
     size
 }
 
-// The length of the instruction at an offset, 0 where none can be read.
-pub fn size_at(code: &[u8], at: usize) -> usize
-    requires { ⌜ at < length (now code) ⌝ ∗ ⌜ length (now code) ≤ 1024 ⌝ }
+// A byte as a number.
+fn wide(b: u8) -> usize
+    ensures { λ r. ⌜ (r ≡ b) × (r < 256) ⌝ }
+{
+    b as usize
+}
+
+// The length of the instruction at an offset, by the table of lengths; 0 where none can be read.
+pub fn size_at(lengths: &[u8; 256], code: &[u8], at: usize) -> usize
+    requires { ⌜ Lengths (now lengths) ⌝ ∗ ⌜ at < length (now code) ⌝ ∗ ⌜ length (now code) ≤ 1024 ⌝ }
     ensures { λ r. ⌜ r ≡ sizeAt (now (code .entry)) at ⌝ ∗ ⌜ r ≤ 9 ⌝ ∗ ⌜ at + r ≤ length (now (code .entry)) ⌝ }
 {
-    let size = quick_length(code[at]);
+    let b = wide(code[at]);
+    let size = wide(lengths[b]);
     if code.len() < at + size {
         return 0;
     }

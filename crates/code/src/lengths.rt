@@ -1,9 +1,5 @@
 // The table of lengths.
-ghost use mathlib.Core.Path.{_≡_};
-ghost use Prim.Native.Nat.{_<_};
-ghost use lib.ListN.{getD};
-ghost use Rattle.model.specs.Code.{lengthOf};
-ghost use Rattle.code.specs.Rows.{lengthRows};
+ghost use Rattle.code.specs.Lengths.{Lengths, ByRange};
 
 // One length for each first byte, 0 where not kept; the bytes at the right are in hex.
 const LENGTHS: [u8; 256] = [
@@ -265,44 +261,10 @@ const LENGTHS: [u8; 256] = [
     0,
 ];
 
-// The length of the instruction with first byte b.
-pub fn length_of(b: u8) -> usize
-    ensures { λ r. ⌜ r ≡ lengthOf b ⌝ }
-    ensures below { λ r. ⌜ r < 10 ⌝ }
+// The table, to be lent: an indexed constant array is written anew at each use.
+pub fn table() -> [u8; 256]
+    ensures { λ r. ⌜ Lengths r ⌝ }
+    ensures ranges { λ r. ⌜ ByRange r ⌝ }
 {
-    LENGTHS[b as usize] as usize
-}
-
-// Sixteen lengths in a row, four bits each, the first one lowest.
-fn row(n: u64) -> u64
-    ensures { λ r. ⌜ r ≡ getD lengthRows n 0 ⌝ }
-{
-    match n {
-        0 => 0x211111111111101,
-        1 => 0x2111111111112022,
-        2 => 0x2222210501109095,
-        3 => 0x5555555522222222,
-        4 => 0x55555,
-        5 => 0x1111111100000000,
-        6 => 0x5001011001111111,
-        7 => 0x550500000555000,
-        8 => 0x5,
-        9 => 0x0,
-        10 => 0x0,
-        11 => 0x0,
-        12 => 0x0,
-        13 => 0x10101000000,
-        14 => 0x0,
-        15 => 0x200000000000000,
-        _ => 0,
-    }
-}
-
-// The same length without the table, which is set up anew at each use: for the decoding of each step.
-pub fn quick_length(b: u8) -> usize
-    ensures { λ r. ⌜ r ≡ lengthOf b ⌝ }
-    ensures below { λ r. ⌜ r < 10 ⌝ }
-{
-    let n = b as u64;
-    ((row(n / 16) >> (n % 16 * 4)) & 15) as usize
+    LENGTHS
 }

@@ -4,4 +4,5 @@ pub mod insn;
 pub mod lengths;
 pub mod little;
 pub mod operand;
+pub mod operands;
 pub mod part;

@@ -1,34 +1,57 @@
 -- What the functions for a host write to the cells that it lends.
-use mathlib.Core.Path.{_≡_}
-use mathlib.Core.Bool.{Bool, true, false}
-use mathlib.Core.List.{List}
-use Prim.Native.Nat.{ℕ, zero, suc, _+_, _-_}
-use lib.Dec.{ltb}
-use lib.ListN.{getD, set}
-use Rattle.model.specs.Answer.{Answer, pick}
+use mathlib.Core.Bool.{Bool, _&&_}
+use mathlib.Core.List.{List, [], _∷_, _++_}
+use Prim.Native.Nat.{ℕ, _+_, _-_, _*_, _/_, _%_}
+use lib.Dec.{ltb, leb}
+use lib.ListN.{length, getD, drop}
+use Rattle.model.specs.Answer.{Answer, bad, ok, pick}
 use Rattle.model.specs.Loading.{Refusal}
-use Rattle.model.specs.Run as Model
-use Rattle.cells.specs.declared.State.{State}
-use Rattle.text.specs.declared.line.Value.{Value}
-use Rattle.text.specs.declared.line.Value.the-variants.{None, Int32, Int64, Real, Null, Object}
+use Rattle.model.specs.Operators.{flag}
+use Rattle.model.specs.Run as Run
+use Rattle.loaded.specs.declared.Fault.{Fault}
+use Rattle.state.specs.View.{span}
+use Rattle.state.specs.declared.State.{State}
+use Rattle.checker.specs.declared.tell.Found.{Found}
+use Rattle.line.specs.declared.line.Value.{Value}
+use Rattle.line.specs.declared.line.Value.the-variants.{None, Int32, Int64, Real, Null, Object}
+use Rattle.runner.specs.Answers.{told, refusedBy}
 use Rattle.runner.specs.declared.Ended.{Ended}
-use Rattle.runner.specs.declared.Ran.{Ran}
-use Rattle.runner.specs.Answers.{Answers}
-use Rattle.loitsupar.specs.declared.checking.Checked.{Checked}
-use Rattle.loitsupar.specs.declared.checking.Checked.the-variants.{Passes, Fault}
 
--- f 0, f 1, .. in n cells from a place on; what has no cell is left out
-unfoldable pub laid : (ℕ → ℕ) → ℕ → ℕ → List ℕ → List ℕ
-laid f from zero s = s
-laid f from (suc n) s = set (laid f from n s) (n + from) (f n)
+-- ---- Cells that are lent
 
-unfoldable pub three : ℕ → ℕ → ℕ → List ℕ → List ℕ
-three x y z s = set (set (set s 0 x) 1 y) 2 z
+-- whether a host lends so many cells
+unfoldable pub lends : ℕ → List ℕ → Bool
+lends n cells = leb n (length cells)
 
--- a fault: number, method row, offset; all 0 where the module passes
-unfoldable pub faultCells : Checked → List ℕ → List ℕ
-faultCells Passes s = three 0 0 0 s
-faultCells (Fault number method offset) s = three number method offset s
+-- enough for a fault
+abbrev pub enoughToCheck : List ℕ → Bool
+enoughToCheck fault = lends 3 fault
+
+-- for an answer and a state
+abbrev pub enoughToRun : List ℕ → List ℕ → Bool
+enoughToRun answer state = lends 6 answer && lends 5314 state
+
+-- for a fault and a shape
+abbrev pub enoughToTell : List ℕ → List ℕ → Bool
+enoughToTell fault shape = lends 3 fault && lends 34 shape
+
+-- 0 with enough cells, else 1
+unfoldable pub status : Bool → ℕ
+status enough = pick enough 0 1
+
+-- the first cells are the answer's, the others as before
+unfoldable pub over : List ℕ → List ℕ → List ℕ
+over answer cells = answer ++ drop (length answer) cells
+
+-- with too few cells every one is as before
+unfoldable pub written : Bool → List ℕ → List ℕ → List ℕ
+written enough answer cells = pick enough (over answer cells) cells
+
+-- ---- A fault, and the answer of a run
+
+-- number, method row, offset
+unfoldable pub faultCells : Fault → List ℕ
+faultCells f = f .number ∷ f .method ∷ f .offset ∷ []
 
 -- a value's sort: 0 none, 1 int32, 2 int64, 3 F
 unfoldable pub sortOf : Value → ℕ
@@ -47,48 +70,56 @@ bitsOf (Real b) = b
 bitsOf Null = 0
 bitsOf (Object b) = 0
 
--- an answer: ending, method row, offset, steps, the value's sort and bits
-unfoldable pub answerCells : Ended → List ℕ → List ℕ
-answerCells e s =
-    set (set (set (three (e .ending) (e .method) (e .offset) s) 3 (e .steps)) 4 (sortOf (e .value))) 5 (bitsOf (e .value))
+-- ending, method row, offset, steps, the value's sort and bits
+unfoldable pub toldCells : Fault → ℕ → Value → List ℕ
+toldCells end steps value = faultCells end ++ (steps ∷ sortOf value ∷ bitsOf value ∷ [])
 
--- cell i of the frames: kinds, bits, arguments, locals, offsets, heights, methods
-unfoldable pub frameCell : List ℕ → List ℕ → List ℕ → List ℕ → List ℕ → List ℕ → List ℕ → ℕ → ℕ
-frameCell kinds bits args locs ats depths methods i =
-    pick (ltb i 1024) (getD kinds i 0)
-    (pick (ltb i 2048) (getD bits (i - 1024) 0)
-    (pick (ltb i 2304) (getD args (i - 2048) 0)
-    (pick (ltb i 2816) (getD locs (i - 2304) 0)
-    (pick (ltb i 2848) (getD ats (i - 2816) 0)
-    (pick (ltb i 2880) (getD depths (i - 2848) 0)
-    (pick (ltb i 2912) (getD methods (i - 2880) 0) 0))))))
+unfoldable pub answerCells : Ended → List ℕ
+answerCells e = toldCells (e .end) (e .steps) (e .value)
 
--- cell i of the rest: statics, marks, the objects' classes, their cells
-unfoldable pub memberCell : List ℕ → List ℕ → List ℕ → List ℕ → ℕ → ℕ
-memberCell statics marks classes heap i =
-    pick (ltb i 64) (getD statics i 0)
-    (pick (ltb i 97) (getD marks (i - 64) 0)
-    (pick (ltb i 353) (getD classes (i - 97) 0)
-    (pick (ltb i 2401) (getD heap (i - 353) 0) 0)))
+-- a refusal, or how the run ended
+unfoldable pub endedBy : Answer Refusal Run.Ended → Ended
+endedBy (bad f) = refusedBy f
+endedBy (ok e) = told e
 
--- a State: how many frames are live, the frames, the rest
-unfoldable pub stateCells : State → List ℕ → List ℕ
-stateCells s l =
-    laid (memberCell (s .statics) (s .marks) (s .classes) (s .heap)) 2913 2401
-    (laid (frameCell (s .kinds) (s .bits) (s .args) (s .locs) (s .ats) (s .depths) (s .methods)) 1 2912 (set l 0 (s .live)))
+-- ---- A state
 
--- whether the host lends enough cells for an answer and a state
-unfoldable pub enough : ℕ → ℕ → Bool
-enough answer state = pick (ltb answer 6) false (pick (ltb state 5314) false true)
+-- the place among the frames' cells, 64 to a frame, of cell i of a part that begins at a column of each frame and is so many cells wide
+unfoldable pub placeOf : ℕ → ℕ → ℕ → ℕ
+placeOf column width i = i / width * 64 + column + i % width
 
--- a run that answers as the model's, told whole in the cells
-pub record Told (answer : Answer Refusal Model.Ended) (a s a′ s′ : List ℕ) : Type 0 where
-  pub ran : Ran
-  pub answers : Answers answer ran
-  pub told : a′ ≡ answerCells (ran .ended) a
-  pub state : s′ ≡ stateCells (ran .ended .state) s
+-- that of cell i of a state: stacks, arguments, locals, offsets, heights, methods
+unfoldable pub framePlace : ℕ → ℕ
+framePlace i =
+    pick (ltb i 2049) (placeOf 24 32 (i - 1025))
+    (pick (ltb i 2305) (placeOf 0 8 (i - 2049))
+    (pick (ltb i 2817) (placeOf 8 16 (i - 2305))
+    (pick (ltb i 2849) (placeOf 56 1 (i - 2817))
+    (pick (ltb i 2881) (placeOf 57 1 (i - 2849)) (placeOf 58 1 (i - 2881))))))
 
--- with enough cells 0 and the answer; else 1, and every cell stays as it is
-unfoldable pub Hosted : Bool → Answer Refusal Model.Ended → List ℕ → List ℕ → ℕ → List ℕ → List ℕ → Type 0
-Hosted true answer a s r a′ s′ = (r ≡ 0) × Told answer a s a′ s′
-Hosted false answer a s r a′ s′ = (r ≡ 1) × (a′ ≡ a) × (s′ ≡ s)
+-- cell i: how many frames are live, the kinds of the stacks, the rest of the frames, statics, marks, the objects' classes, their cells
+unfoldable pub stateCell : State → ℕ → ℕ
+stateCell s i =
+    pick (ltb i 1) (s .live)
+    (pick (ltb i 1025) (getD (s .kinds) (placeOf 24 32 (i - 1)) 0)
+    (pick (ltb i 2913) (getD (s .cells) (framePlace i) 0)
+    (pick (ltb i 2977) (getD (s .statics) (i - 2913) 0)
+    (pick (ltb i 3010) (getD (s .marks) (i - 2977) 0)
+    (pick (ltb i 3266) (getD (s .classes) (i - 3010) 0) (getD (s .heap) (i - 3266) 0))))))
+
+unfoldable pub stateCells : State → List ℕ
+stateCells s = span (stateCell s) 0 5314
+
+-- the arrays that are lent
+abbrev pub lentState : ℕ → List ℕ → List ℕ → List ℕ → List ℕ → List ℕ → List ℕ → State
+lentState live cells kinds statics marks classes heap =
+    record { live = live; cells = cells; kinds = kinds; statics = statics; marks = marks; classes = classes; heap = heap }
+
+-- ---- A shape
+
+-- cell i: whether an instruction starts there, the depth, the types as bytes
+unfoldable pub shapeCell : Found → ℕ → ℕ
+shapeCell f i = pick (ltb i 1) (flag (f .starts)) (pick (ltb i 2) (f .depth) (getD (f .types) (i - 2) 0))
+
+unfoldable pub shapeCells : Found → List ℕ
+shapeCells f = span (shapeCell f) 0 34

@@ -1,1 +1,2 @@
+-- What the contracts for a host speak of.
 pub mod Hosting

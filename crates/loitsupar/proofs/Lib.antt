@@ -1,4 +1,7 @@
-pub mod Bounds
-pub mod Refusals
+-- What is proved once and cited.
 pub mod Answered
+pub mod Bounds
+pub mod Numbers
+pub mod Sizes
+pub mod InArrays
 pub mod Safe

@@ -1,1 +1,2 @@
-pub mod Checking
+-- What the public functions answer.
+pub mod Public

@@ -1,77 +1,31 @@
 // The check over tables and code: it loads first and passes a refusal on.
+use loaded::Fault;
+use loader::load_into;
 ghost use mathlib.Core.Path.{_≡_};
-ghost use mathlib.Core.Option.{some};
-ghost use Rattle.model.specs.Check.{faultIn, check as checkOf};
-ghost use Rattle.tables.specs.Answers.{refusalOf};
-ghost use Rattle.shapes.specs.Verdicts.{faultOf, firstFault};
-ghost use Rattle.loitsupar.specs.Checking.{checked};
-use shapes::Verdict;
-use tables::Loads;
-use tables::load;
+ghost use Rattle.model.specs.Check.{check as checkOf};
+ghost use Rattle.loitsupar.specs.Public.{checked};
 
-// The module passes, or its first fault. A refusal of loading, 1 to 7, is a fault of method 0 at its place.
-pub enum Checked {
-    Passes,
-    Fault {
-        number: u8,
-        method: usize,
-        offset: usize,
-    },
-}
-
-fn fault(number: u8, method: usize, offset: usize) -> Checked
-    ensures { λ r. ⌜ r ≡ Checked.Fault number method offset ⌝ }
+// Loads the tables and checks every method: no fault, or the first in the written order. A refusal of loading is a fault of method 0 at its place.
+pub fn check(tables: &[u8], code: &[u8]) -> Fault
+    ensures { λ r. ⌜ r ≡ checked (checkOf (now (tables .entry)) (now (code .entry))) ⌝ }
 {
-    Checked::Fault {
-        number,
-        method,
-        offset,
+    let mut parents = [0u8; 33];
+    let mut initialisers = [0u8; 33];
+    let mut fields = [0u8; 516];
+    let mut methods = [0u8; 4128];
+    let mut parts = [0usize; 258];
+    let l = load_into(
+        tables,
+        code,
+        &mut parents,
+        &mut initialisers,
+        &mut fields,
+        &mut methods,
+        &mut parts,
+    );
+    let fault = l.fault;
+    if fault.number != 0 {
+        return fault;
     }
-}
-
-// A refusal of loading, passed on.
-pub fn passed_on(a: Loads) -> Checked
-    ensures { λ r. ⌜ r ≡ checked (some (faultIn 0 (refusalOf a))) ⌝ }
-{
-    match a {
-        Loads::Loaded => fault(0, 0, 0),
-        Loads::TooLong => fault(1, 0, 0),
-        Loads::BadRecord(place) => fault(2, 0, place),
-        Loads::Order(place) => fault(3, 0, place),
-        Loads::Range(place) => fault(4, 0, place),
-        Loads::TooMany(place) => fault(5, 0, place),
-        Loads::Rule(place) => fault(6, 0, place),
-        Loads::Override(place) => fault(7, 0, place),
-    }
-}
-
-// What the check of a loaded module says.
-pub fn told(v: Verdict) -> Checked
-    ensures { λ r. ⌜ r ≡ checked (faultOf v) ⌝ }
-{
-    match v {
-        Verdict::Passes => Checked::Passes,
-        Verdict::Undecodable(row, at) => fault(11, row, at),
-        Verdict::Operand(row, at) => fault(12, row, at),
-        Verdict::TooFew(row, at) => fault(13, row, at),
-        Verdict::TooMany(row, at) => fault(14, row, at),
-        Verdict::WrongType(row, at) => fault(15, row, at),
-        Verdict::OtherShape(row, at) => fault(16, row, at),
-        Verdict::FallsPast(row, at) => fault(17, row, at),
-    }
-}
-
-// Loads the tables and checks every method: passes, or the first fault in the written order.
-pub fn check(tables: &[u8], code: &[u8]) -> Checked
-    ensures { λ r. ⌜ r ≡ checked (firstFault (checkOf (now (tables .entry)) (now (code .entry)))) ⌝ }
-{
-    let l = load(tables, code);
-    let answer = l.answer;
-    match answer {
-        Loads::Loaded => {
-            let m = l.module;
-            told(shapes::check(m, code))
-        }
-        _ => passed_on(answer),
-    }
+    checker::check(l.counts, &parents, &fields, &methods, &parts, code)
 }

@@ -1,6 +1,3 @@
-pub mod Chain
-pub mod Order
-pub mod Kept
-pub mod Chained
-pub mod Going
-pub mod Exits
+-- What is proved once and cited.
+pub mod Made
+pub mod Crossed

@@ -1,2 +1,2 @@
--- What the contracts of the run speak of.
-pub mod Running
+-- What the contract of the loop speaks of.
+pub mod Ending

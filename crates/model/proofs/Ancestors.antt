@@ -163,7 +163,8 @@ layout-fuel ps fs w (suc n) (suc k) (suc c) p q =
     ap (λ (l : List Field). l ++ those (isOwn (suc c)) fs) (layout-fuel ps fs w n k (parentOf ps (suc c)) (omega arith) (omega arith))
 
 -- a class's layout is its parent's, then its own fields
-pub layout-parent : (ps : List ℕ) (fs : List Field) → Falls ps → (c : ℕ) → layout ps fs (suc c) ≡ layout ps fs (parentOf ps (suc c)) ++ those (isOwn (suc c)) fs
+pub layout-parent : (ps : List ℕ) (fs : List Field) → Falls ps → (c : ℕ)
+    → layout ps fs (suc c) ≡ layout ps fs (parentOf ps (suc c)) ++ those (isOwn (suc c)) fs
 unfolding layout layoutUp
 layout-parent ps fs w c =
     let h : parentOf ps (suc c) ≤ c = w c in

@@ -10,9 +10,13 @@ use lib.ListN.{length, getD, set, replicate, length-set, length-replicate}
 use lib.Dec.{T, ltb, eqb, eqb→eq, eqb-refl, leb→le, ltb→lt, nleb→lt}
 use Rattle.model.specs.Answer.{ok, orElse, at, row, keepIf}
 use Rattle.model.specs.Tables.{Method, Module}
+use Rattle.model.specs.Loading.{load}
 use Rattle.model.specs.Code.{Ins, decode, Act, operands}
-use Rattle.model.specs.Check.{Shape, Shapes, Site, decodeFrom, starts, targets, allStart, findOperands, effect, falls, joined, meet, arrive, arrivals, shapeAt, visit, visits, checkMethod, checkMethods, checkModule}
-use Rattle.model.proofs.Hoare.{Yields, yields-ok, yields-bind, yields-then, yields-from, yields-need, yields-guard, yields-map, yields-blame, yields-pick, yields-of, none-some, some-eq, only-inv, and-l, and-r, and-i, or-l, or-r, or-e, implies, All, anil, acons, all-map}
+use Rattle.model.specs.Check.{Shape, Shapes, Site, decodeFrom, starts, targets, allStart, findOperands, effect, falls, joined, meet, arrive, arrivals}
+use Rattle.model.specs.Check.{shapeAt, visit, visits, checkMethod, checkMethods, checkModule, check, foundAt}
+use Rattle.model.proofs.Hoare.{Yields, yields-ok, yields-bind, yields-then, yields-from, yields-need, yields-guard, yields-map, yields-blame}
+use Rattle.model.proofs.Hoare.{yields-pick, yields-of, bind-inv, blame-inv, ok-eq, none-some, some-eq, only-inv, and-l, and-r, and-i, or-l, or-r, or-e}
+use Rattle.model.proofs.Hoare.{implies, All, anil, acons, all-map}
 use Rattle.model.proofs.Ancestors.{Below, bnil, below-refl, eqTys-eq}
 use Rattle.model.proofs.Decoding.{decode-advances}
 
@@ -39,10 +43,14 @@ pub record Visited (M : Module) (m : Method) (found : ℕ → Option Shape) (o :
   pub away : All (λ t. Lands (M .parents) found t brings) (targets act)
   pub onward : T (falls act) → Lands (M .parents) found next brings
 
--- all that the run needs of the check of a method
+-- what the check of a method says: for the run, and that shapes stand just where instructions start
 pub record Certificate (M : Module) (m : Method) (found : ℕ → Option Shape) : Type 0 where
   pub first : Lands (M .parents) found 0 []
   pub site : (o : ℕ) (S : Shape) → found o ≡ some S → Visited M m found o S
+  pub sites : List (Site Ins)
+  pub decodes : decodeFrom (length (m .code)) (m .code) 0 ≡ ok sites
+  pub shaped : (o : ℕ) → T (starts sites o) → (S : Shape) × (found o ≡ some S)
+  pub only : (o : ℕ) (S : Shape) → found o ≡ some S → T (starts sites o)
 
 -- ---- (a) decoded
 
@@ -124,7 +132,10 @@ unfolding findOperands
 known M m all anil anil = yields-ok _ _ _ (anil, alike-nil)
 known M m all (acons {a = s} {l = l} p ps) (acons h hs) =
     yields-need _ _ _ _ λ a e. yields-guard _ _ _ _ λ t. yields-bind _ _ _ _ (known M m all ps hs) λ k q.
-    yields-ok _ _ _ (acons (record { ins = s .what; reads = p .reads; inside = p .inside; next = p .next; here = h; finds = e; aims = t }) (q .0), alike-cons s _ refl (q .1))
+    yields-ok _ _ _ (
+      acons (record { ins = s .what; reads = p .reads; inside = p .inside; next = p .next; here = h; finds = e; aims = t }) (q .0),
+      alike-cons s _ refl (q .1),
+    )
 
 all-start : {A : Type 0} (l : List (Site A)) → All (λ (s : Site A). T (starts l (s .offset))) l
 all-start [] = anil
@@ -179,7 +190,7 @@ set-grown all l o a t f = record {
   only = λ p S e g. set-only l o a p S e (λ q. subst (λ (x : ℕ). T (starts all x)) q t) (λ q. g S q);
 }
 
-pub look-shape : (l : Shapes) (o : ℕ) (S : Shape) → look l o ≡ some S → S ≡ shapeAt l o
+look-shape : (l : Shapes) (o : ℕ) (S : Shape) → look l o ≡ some S → S ≡ shapeAt l o
 unfolding look shapeAt orElse
 look-shape l o S e = rw e
 
@@ -263,7 +274,8 @@ module _ (M : Module) (m : Method) (all : List (Site Ins)) (inside : (o : ℕ) �
       let y : length (settled l (s .offset)) ≡ length (m .code) = g .size ∙ z in
       yields-then _ _ _ λ S e.
       yields-bind _ _ _ _ (arrives (M .parents) all (length (m .code)) (settled l (s .offset)) S y
-      (all-keep _ b (s .next) (λ t. let h : s .next < length (m .code) = ltb→lt (s .next) (length (m .code)) (and-r (falls (s .what)) (ltb (s .next) (length (m .code))) t) in (p .next h, h))
+      (all-keep _ b (s .next) (λ t. let h : s .next < length (m .code) = ltb→lt (s .next) (length (m .code))
+      (and-r (falls (s .what)) (ltb (s .next) (length (m .code))) t) in (p .next h, h))
       (aimed (targets (s .what)) (p .aims)))) λ k q.
       yields-guard _ _ _ _ λ u.
       let r = keep-all _ b (s .next) (targets (s .what)) (q .1) in
@@ -311,8 +323,27 @@ site-of M m all l (acons {a = s} {l = ss} p ps) (acons q qs) o S t e =
     (λ h. let z : s .offset ≡ o = eqb→eq (s .offset) o h in
     let y : q .shape ≡ S = some-eq (sym (q .stands) ∙ subst (λ (x : ℕ). look l x ≡ some S) (sym z) e) in
     subst (λ (x : ℕ). Visited M m (look l) x S) z (subst (λ (R : Shape). Visited M m (look l) (s .offset) R) y
-    (record { ins = p .ins; next = s .next; act = s .what; inside = p .inside; reads = p .reads; finds = p .finds; brings = q .brings; passes = q .passes; away = q .away; onward = q .onward })))
+    (record {
+      ins = p .ins;
+      next = s .next;
+      act = s .what;
+      inside = p .inside;
+      reads = p .reads;
+      finds = p .finds;
+      brings = q .brings;
+      passes = q .passes;
+      away = q .away;
+      onward = q .onward;
+    })))
     (λ h. site-of M m all l ps qs o S h e)
+
+shape-of : (M : Module) (m : Method) (l : Shapes) {ss : List (Site Act)} → All (Local M m l) ss → (o : ℕ) → T (starts ss o) → (S : Shape) × (look l o ≡ some S)
+unfolding starts
+shape-of M m l anil o t = absurd t
+shape-of M m l (acons {a = s} {l = ss} q qs) o t =
+    or-e (eqb (s .offset) o) (starts ss o) t
+    (λ h. (q .shape, subst (λ (x : ℕ). look l x ≡ some (q .shape)) (eqb→eq (s .offset) o h) (q .stands)))
+    (λ h. shape-of M m l qs o h)
 
 none-yet : (n o : ℕ) → look (replicate n none) o ≡ none
 unfolding look
@@ -327,23 +358,26 @@ none-shape n o = rw (none-yet n o)
 certified : (M : Module) (m : Method) → 0 < length (m .code) → Yields (λ l. Certificate M m (look l)) (checkMethod M m)
 unfolding checkMethod
 certified M m h =
-    yields-bind _ _ _ _ (decoded (length (m .code)) (m .code) 0 (omega arith)) λ all d.
+    yields-then _ _ _ λ all a.
+    let d = yields-of _ _ _ a (decoded (length (m .code)) (m .code) 0 (omega arith)) in
     yields-bind _ _ _ _ (known M m all (d .0) (all-start all)) λ ss k.
     yields-from _ _ λ l e.
     let inside = start-inside (m .code) (d .0) in
     let z = length-replicate (length (m .code)) none in
     let v = yields-of _ _ _ e (visited M m all inside (replicate (length (m .code)) none) z (k .0)) in
     let f = yields-of _ _ _ e (first-shape M m all inside (replicate (length (m .code)) none) z 0 (k .0) (k .1 .head 0 (d .1 h))) in
+    let only : (o : ℕ) (S : Shape) → look l o ≡ some S → T (starts all o) =
+    λ o S q. v .0 .only o S q (λ R r. none-some (sym (none-yet (length (m .code)) o) ∙ r)) in
     record {
       first = record { shape = []; is = f ∙ ap some (sym (none-shape (length (m .code)) 0)); below = bnil };
-      site = λ o S q. site-of M m all l (k .0) (v .1) o S (k .1 .start o (v .0 .only o S q (λ R r. none-some (sym (none-yet (length (m .code)) o) ∙ r)))) q;
+      site = λ o S q. site-of M m all l (k .0) (v .1) o S (k .1 .start o (only o S q)) q;
+      sites = all;
+      decodes = a;
+      shaped = λ o t. shape-of M m l (v .1) o (k .1 .start o t);
+      only = only;
     }
 
 -- ---- All methods
-
--- the shape that the check found at an offset of a method
-unfoldable pub foundAt : List Shapes → ℕ → ℕ → Option Shape
-foundAt found r o = look (orElse (row found r) []) o
 
 -- each method with the shapes found for it
 pub record Checked (M : Module) (found : List Shapes) (i : ℕ) (m : Method) : Type 0 where
@@ -370,8 +404,32 @@ all-checked M r (k ∷ ms) h =
 -- a module that passes has a certificate for each method
 pub certificates : (M : Module) (found : List Shapes) → ((r : ℕ) (m : Method) → row (M .methods) r ≡ some m → 0 < length (m .code)) → checkModule M ≡ ok found
     → (r : ℕ) (m : Method) → row (M .methods) r ≡ some m → Certificate M m (foundAt found r)
-unfolding checkModule row foundAt orElse
+unfolding checkModule row foundAt orElse look
 certificates M found h e zero m q = none-some q
 certificates M found h e (suc i) m q =
     let c = yields-of _ _ _ e (all-checked M 1 (M .methods) (λ j k p. h (suc j) k p)) i m q in
     subst (λ (x : Option Shapes). Certificate M m (λ o. look (orElse x []) o)) (sym (c .is)) (c .certificate)
+
+-- no method, no shapes
+none-checked : (M : Module) (r : ℕ) (ms : List Method) → Yields (λ found. (i : ℕ) → at ms i ≡ none → at found i ≡ none) (checkMethods M r ms)
+unfolding checkMethods at
+none-checked M r [] = yields-ok _ _ _ λ i e. refl
+none-checked M r (m ∷ ms) =
+    yields-then _ _ _ λ l _. yields-bind _ _ _ _ (none-checked M (suc r) ms) λ found h. yields-ok _ _ _ (next l found h)
+  where
+    next : (l : Shapes) (found : List Shapes) → ((i : ℕ) → at ms i ≡ none → at found i ≡ none) → (i : ℕ) → at (m ∷ ms) i ≡ none → at (l ∷ found) i ≡ none
+    next l found h zero e = none-some (sym e)
+    next l found h (suc i) e = h i e
+
+pub nowhere : (M : Module) (found : List Shapes) → checkModule M ≡ ok found → (r : ℕ) → row (M .methods) r ≡ none → (o : ℕ) → foundAt found r o ≡ none
+unfolding checkModule row foundAt orElse
+nowhere M found e zero q o = refl
+nowhere M found e (suc i) q o = rw (yields-of _ _ _ e (none-checked M 1 (M .methods)) i q)
+
+-- the check of tables and code is that of the module that they load to
+pub check-module : (tables code : List ℕ) (M : Module) (found : List Shapes) → load tables code ≡ ok M → check tables code ≡ ok found
+    → checkModule M ≡ ok found
+unfolding check
+check-module tables code M found l c =
+    let (N, c1, c2) = bind-inv _ _ _ c in
+    subst (λ (x : Module). checkModule x ≡ ok found) (ok-eq (sym (blame-inv _ _ _ c1) ∙ l)) c2

@@ -9,7 +9,9 @@ use lib.ListN.{drop}
 use lib.Dec.{T, leb, eqb, eqb→eq, leb→le, T-not}
 use Rattle.model.specs.Answer.{pick}
 use Rattle.model.specs.Loading.{little, within}
-use Rattle.model.specs.Code.{_to_, among, kept, ofTwo, ofFive, ofNine, lengthOf, Ins, Form, bare, short, long, double, near, far, second, Kept, _is_, op, un, const, i4-s, i4, i8, r8, branches, loads, operators, objects, instructions, afterFE, formOf, Decoded, asForm, fullForm, decodeByte, decodeAt, decode}
+use Rattle.model.specs.Code.{sizeOf, lengthBy, lengthOf, Ins, Form, bare, short, long, double, near, far, second, Kept, _is_}
+use Rattle.model.specs.Code.{op, un, const, i4-s, i4, i8, r8, branches, loads, operators, objects, instructions, afterFE, formOf, Decoded, asForm}
+use Rattle.model.specs.Code.{fullForm, decodeByte, decodeAt, decode}
 use Rattle.model.proofs.Hoare.{none-some, some-eq, and-l, and-r, or-e, only-inv, then-inv, map-inv, pick-inv}
 
 -- an instruction at whose offset a frame waits
@@ -53,7 +55,7 @@ allCallless x [] = true
 allCallless x (k ∷ ks) = callless x (k .form) && allCallless x ks
 
 instructions-fit : (x : ℕ) → T (lengthsFit x instructions)
-unfolding lengthsFit lengthFits callless isCall instructions loads branches operators objects _is_ op un const i4-s i4 i8 r8 lengthOf pick among within _to_ kept ofTwo ofFive ofNine
+unfolding lengthsFit lengthFits callless isCall instructions loads branches operators objects _is_ op un const i4-s i4 i8 r8 sizeOf lengthBy lengthOf formOf pick
 instructions-fit x = tt
 
 afterFE-callless : (x : ℕ) → T (allCallless x afterFE)
@@ -110,7 +112,8 @@ unfolding lengthFits
 five-or b f r g n i e1 e2 e3 t true q = eqb→eq (lengthOf b) 5 (rw q tt)
 five-or b f r g n i e1 e2 e3 t false q =
     absurd (T-not (isCall i) (callless-ins g r n i (full-callless f g r e2 (λ x.
-    or-e (eqb (lengthOf b) 5) (callless x f) (and-r (leb 1 (lengthOf b)) (eqb (lengthOf b) 5 || callless x f) (form-fits x instructions (instructions-fit x) b f e1))
+    or-e (eqb (lengthOf b) 5) (callless x f) (and-r (leb 1 (lengthOf b)) (eqb (lengthOf b) 5 || callless x f)
+    (form-fits x instructions (instructions-fit x) b f e1))
     (λ s. absurd (rw q at s)) (λ s. s))) e3) t)
 
 byte-advances : (b : ℕ) (r : List ℕ) (o : ℕ) (d : Decoded) → decodeByte b r o ≡ some d → Advances o d
@@ -120,7 +123,8 @@ byte-advances b r o d e =
     let (f, e1, e2) = then-inv _ _ _ e0 in
     let (g, e3, e4) = then-inv _ _ _ e2 in
     let (i, e5, e6) = map-inv _ _ _ e4 in
-    let h : 1 ≤ lengthOf b = leb→le 1 (lengthOf b) (and-l (leb 1 (lengthOf b)) (eqb (lengthOf b) 5 || callless 0 f) (form-fits 0 instructions (instructions-fit 0) b f e1)) in
+    let h : 1 ≤ lengthOf b = leb→le 1 (lengthOf b) (and-l (leb 1 (lengthOf b)) (eqb (lengthOf b) 5 || callless 0 f)
+    (form-fits 0 instructions (instructions-fit 0) b f e1)) in
     subst (λ (x : Decoded). Advances o x) e6
     (record { rises = omega arith; call = λ t. ap (λ (n : ℕ). o + n) (five-or b f r g (o + lengthOf b) i e1 e3 e5 t (eqb (lengthOf b) 5) refl) })
 

@@ -1,4 +1,4 @@
--- Rules for answers: `Holds` for the run, `Yields` and the inversions for load and check.
+-- Rules for answers: `Holds` for the run, `Stops` for its endings, `Yields` and the inversions for load and check.
 use mathlib.Core.Path.{_≡_, refl, ap}
 use Prim.Native.Nat.{ℕ, _≤_}
 use native.Mathlib.Omega.{arith}
@@ -108,6 +108,47 @@ pub holds-test : {B : Type 0} (P : B → Type 0) (b : Bool) (n : ℕ) (f : Unit 
 unfolding _>>=_ guard Holds NotStuck
 holds-test P true n f t h = h tt
 holds-test P false n f t h = t
+
+-- ---- Endings
+
+-- a number, if any, passes a test
+unfoldable pub Stops : {A : Type 0} → (ℕ → Bool) → Answer ℕ A → Type 0
+Stops p (bad n) = T (p n)
+Stops p (ok a) = Unit {0}
+
+pub stops-ok : {A : Type 0} (p : ℕ → Bool) (a : A) → Stops p (ok a)
+unfolding Stops
+stops-ok p a = tt
+
+pub stops-bad : (A : Type 0) (p : ℕ → Bool) (n : ℕ) → T (p n) → Stops {A = A} p (bad n)
+unfolding Stops
+stops-bad A p n t = t
+
+pub stops-bind : {A B : Type 0} (p : ℕ → Bool) (m : Answer ℕ A) (f : A → Answer ℕ B) → Stops p m → ((a : A) → Stops p (f a)) → Stops p (m >>= f)
+unfolding Stops _>>=_
+stops-bind p (bad n) f h k = h
+stops-bind p (ok a) f h k = k a
+
+pub stops-guard : {B : Type 0} (p : ℕ → Bool) (b : Bool) (n : ℕ) (f : Unit {0} → Answer ℕ B) → T (p n) → Stops p (f tt) → Stops p (guard b n >>= f)
+unfolding Stops _>>=_ guard
+stops-guard p true n f t h = h
+stops-guard p false n f t h = t
+
+pub stops-need : {A B : Type 0} (p : ℕ → Bool) (o : Option A) (n : ℕ) (f : A → Answer ℕ B) → T (p n) → ((a : A) → o ≡ some a → Stops p (f a))
+    → Stops p (need o n >>= f)
+unfolding Stops _>>=_ need
+stops-need p none n f t h = t
+stops-need p (some a) n f t h = h a refl
+
+pub stops-pick : {A : Type 0} (p : ℕ → Bool) (b : Bool) (m k : Answer ℕ A) → Stops p m → Stops p k → Stops p (pick b m k)
+unfolding pick
+stops-pick p true m k h g = h
+stops-pick p false m k h g = g
+
+pub stops-widen : {A : Type 0} (p q : ℕ → Bool) → ((n : ℕ) → T (p n) → T (q n)) → (m : Answer ℕ A) → Stops p m → Stops q m
+unfolding Stops
+stops-widen p q f (bad n) h = f n h
+stops-widen p q f (ok a) h = tt
 
 -- ---- Load and check
 

@@ -7,8 +7,12 @@ pub mod Decoding
 pub mod Operands
 pub mod Certificate
 pub mod Typing
+pub mod Endings
 pub mod Loaded
 pub mod Members
+pub mod Told
 pub mod States
 pub mod Steps
+pub mod Budget
 pub mod Safe
+pub mod EachStep

@@ -1,28 +1,36 @@
--- The listed runs, by computation: each line `unfolding` opens every definition that a run goes through.
+-- The listed runs, by computation: `unfolding` opens every definition that they go through.
 use mathlib.Core.Path.{_≡_, refl}
-use Rattle.model.specs.Answer.{_>>=_, guard, need, blame, pick, onlyIf, orElse, orNext, mapOption, isNone, isNil, at, row, keepIf, those, firstRow, lastOf, onLast}
-use Rattle.model.specs.Tables.{byteOf, eqTy, eqTys, typeAt, sortAt, sortByte, isSort, partOf, noMethod, methodAt, thisOf, arguments, asList, due, parentOf, climbs, descends, isOwn, layoutUp, layout, fieldTypes, isStaticField, slot, rootUp, root, ofRoot, initialiserOf}
-use Rattle.model.specs.Loading.{refusal, little, nothing, bodyBytes, within, follows, parentFits, classRecord, noField, fieldRoom, fieldRecord, returnAt, overrideFits, rootFree, sortFits, codeFits, methodRecord, latest, withParam, withLocal, onLatest, paramRecord, localRecord, isClass, isInteger, all, noClass, entryFits, entryRecord, oneRecord, readRecord, records, eqReturns, differs, agreed, load}
-use Rattle.model.specs.Code.{_to_, among, kept, ofTwo, ofFive, ofNine, lengthOf, _is_, op, un, const, i4-s, i4, i8, r8, branches, loads, operators, objects, instructions, afterFE, formOf, target, asForm, fullForm, andThen, decodeByte, decodeAt, decode, rowOf, classOf, fieldOf, methodOf, callable, dispatched, constructs, operands}
-use Rattle.model.specs.Operators.{refersTo, fitsClass, fits, kind, kindNumber, same, wrap, holds, divided, checked, integer, wholeOf, shifted, double, stored, real, relates, relatesF, relatesRef, relationOf, comparison, flag, meaning, numberOf, integersOf, binaryOf, conversion, negOf, notOf, conv4Of, conv8Of, convFOf, unaryOf, testable}
-use Rattle.model.specs.State.{value, zeroOf, bitsIn, places, get, store, freeFrom, free, noObject, objectAt, newObject, typeOf, fitsValue, kindOf, firsts, fitAll, undecodable, operandFault, tooFew, tooMany, wrongType, pops, pop1, pop2, room, stateOf, framesGone, enter}
-use Rattle.model.specs.Step.{placeAt, lowestFree, moved, withTop, move, moveWith, push, startedByField, startedByCall, isMarked, mark, startBy, starting, doBinary, doUnary, doTest, doWhen, doJump, doPush, doDup, popping, doStarg, doStloc, chooseUp, choose, doCall, notNull, doCallvirt, doNewobj, resumed, return, doRet, doCast, slotIn, doLdfld, withCell, doStfld, doLdsfld, doStsfld, doPlain, act, step}
-use Rattle.model.specs.Run.{admitOne, admit, firstMarks, firstFrames, first, halted, finished, after, steps, runModule, run}
-use Rattle.model.specs.Check.{decodeFrom, starts, targets, allStart, findOperands, popsOne, pushes, plainEffect, testEffect, jumpEffect, callEffect, newobjEffect, castEffect, effect, jumpFalls, plainFalls, falls, joined, meet, arrive, arrivals, shapeAt, visit, visits, checkMethod, faultIn, checkMethods, checkModule, check}
-use Rattle.model.specs.Turn.{digits, decimal, signed, hexDigit, hex, dash, textOf, faultLine, endedLine, lineOf, space, print, play, answer, turn}
-use Rattle.model.specs.Listed.{tablesOf, refused, saidRun, saidCheck, ran, checks, gives, stops, passes, faulty, starred, asWritten, methodBytes, markedFirst, baseNotStarted, easyToGetWrong, gotRight, example, exampleLine}
+use Rattle.model.specs.Answer.{_>>=_, guard, need, blame, pick, onlyIf, orElse, mapOption, isNone, isNil, at, row, keepIf, those, firstRow, lastOf}
+use Rattle.model.specs.Tables.{byteOf, eqTy, eqTys, typeAt, sortAt, sortByte, isSort, partOf, methodAt, asList, due, parentOf, fieldTypes}
+use Rattle.model.specs.Tables.{isStaticField}
+use Rattle.model.specs.Tables.{slot, initialiserOf}
+use Rattle.model.specs.Loading.{refusal, little, nothing, bodyBytes, within, follows, parentFits, classRecord, noField, fieldRoom, fieldRecord}
+use Rattle.model.specs.Loading.{returnAt, overrideFits, rootFree, sortFits, codeFits, methodRecord, isClass, all, noClass, entryFits, entryRecord}
+use Rattle.model.specs.Loading.{oneRecord, readRecord, records, differs, agreed, load}
+use Rattle.model.specs.Code.{sizeOf, lengthBy, lengthOf, _is_, op, const, i4-s, i4, branches, loads, operators, objects}
+use Rattle.model.specs.Code.{instructions, formOf, target, asForm, fullForm, andThen, decodeByte, decodeAt, decode, rowOf, fieldOf, operands}
+use Rattle.model.specs.Operators.{fits, kind, kindNumber, same, wrap, holds, divided, checked, integer, wholeOf, meaning, numberOf, integersOf}
+use Rattle.model.specs.Operators.{binaryOf, testable}
+use Rattle.model.specs.State.{value, zeroOf, bitsIn, typeOf, fitsValue, kindOf, firsts, fitAll, pops, pop1, pop2, room, enter}
+use Rattle.model.specs.Step.{moved, withTop, move, moveWith, push, startedByField, isMarked, mark, startBy, starting, doBinary, doTest, doJump, doPush}
+use Rattle.model.specs.Step.{popping, resumed, return, doRet, slotIn, doLdsfld, doStsfld, doPlain, act, step}
+use Rattle.model.specs.Run.{admit, firstMarks, firstFrames, first, halted, finished, after, steps, runModule, run}
+use Rattle.model.specs.Check.{decodeFrom, starts, targets, allStart, findOperands, pushes, plainEffect, testEffect, jumpEffect, effect, jumpFalls}
+use Rattle.model.specs.Check.{plainFalls, falls, joined, meet, arrive, arrivals, shapeAt, visit, visits, checkMethod, faultIn, checkMethods}
+use Rattle.model.specs.Check.{checkModule, check}
+use Rattle.model.specs.Turn.{digits, decimal, signed, textOf, endedLine, lineOf, space, print, play, answer, turn}
+use Rattle.model.specs.Listed.{starred, asWritten, easyToGetWrong, gotRight, example, exampleLine}
 
--- those marked *, together
-pub listed-runs : starred ≡ asWritten
-unfolding _>>=_ guard need blame pick onlyIf orElse orNext mapOption isNone isNil at row keepIf those firstRow lastOf onLast byteOf eqTy eqTys typeAt sortAt sortByte isSort partOf noMethod methodAt thisOf arguments asList due parentOf climbs descends isOwn layoutUp layout fieldTypes isStaticField slot rootUp root ofRoot initialiserOf refusal little nothing bodyBytes within follows parentFits classRecord noField fieldRoom fieldRecord returnAt overrideFits rootFree sortFits codeFits methodRecord latest withParam withLocal onLatest paramRecord localRecord isClass isInteger all noClass entryFits entryRecord oneRecord readRecord records eqReturns differs agreed load _to_ among kept ofTwo ofFive ofNine lengthOf _is_ op un const i4-s i4 i8 r8 branches loads operators objects instructions afterFE formOf target asForm fullForm andThen decodeByte decodeAt decode rowOf classOf fieldOf methodOf callable dispatched constructs operands refersTo fitsClass fits kind kindNumber same wrap holds divided checked integer wholeOf shifted double stored real relates relatesF relatesRef relationOf comparison flag meaning numberOf integersOf binaryOf conversion negOf notOf conv4Of conv8Of convFOf unaryOf testable value zeroOf bitsIn places get store freeFrom free noObject objectAt newObject typeOf fitsValue kindOf firsts fitAll undecodable operandFault tooFew tooMany wrongType pops pop1 pop2 room stateOf framesGone enter placeAt lowestFree moved withTop move moveWith push startedByField startedByCall isMarked mark startBy starting doBinary doUnary doTest doWhen doJump doPush doDup popping doStarg doStloc chooseUp choose doCall notNull doCallvirt doNewobj resumed return doRet doCast slotIn doLdfld withCell doStfld doLdsfld doStsfld doPlain act step admitOne admit firstMarks firstFrames first halted finished after steps runModule run decodeFrom starts targets allStart findOperands popsOne pushes plainEffect testEffect jumpEffect callEffect newobjEffect castEffect effect jumpFalls plainFalls falls joined meet arrive arrivals shapeAt visit visits checkMethod faultIn checkMethods checkModule check digits decimal signed hexDigit hex dash textOf faultLine endedLine lineOf space print play answer turn tablesOf refused saidRun saidCheck ran checks gives stops passes faulty starred asWritten methodBytes markedFirst baseNotStarted easyToGetWrong gotRight example exampleLine
-listed-runs = refl
-
--- what is easy to get wrong, where no starred run shows it
-pub easy-to-get-wrong : easyToGetWrong ≡ gotRight
-unfolding _>>=_ guard need blame pick onlyIf orElse orNext mapOption isNone isNil at row keepIf those firstRow lastOf onLast byteOf eqTy eqTys typeAt sortAt sortByte isSort partOf noMethod methodAt thisOf arguments asList due parentOf climbs descends isOwn layoutUp layout fieldTypes isStaticField slot rootUp root ofRoot initialiserOf refusal little nothing bodyBytes within follows parentFits classRecord noField fieldRoom fieldRecord returnAt overrideFits rootFree sortFits codeFits methodRecord latest withParam withLocal onLatest paramRecord localRecord isClass isInteger all noClass entryFits entryRecord oneRecord readRecord records eqReturns differs agreed load _to_ among kept ofTwo ofFive ofNine lengthOf _is_ op un const i4-s i4 i8 r8 branches loads operators objects instructions afterFE formOf target asForm fullForm andThen decodeByte decodeAt decode rowOf classOf fieldOf methodOf callable dispatched constructs operands refersTo fitsClass fits kind kindNumber same wrap holds divided checked integer wholeOf shifted double stored real relates relatesF relatesRef relationOf comparison flag meaning numberOf integersOf binaryOf conversion negOf notOf conv4Of conv8Of convFOf unaryOf testable value zeroOf bitsIn places get store freeFrom free noObject objectAt newObject typeOf fitsValue kindOf firsts fitAll undecodable operandFault tooFew tooMany wrongType pops pop1 pop2 room stateOf framesGone enter placeAt lowestFree moved withTop move moveWith push startedByField startedByCall isMarked mark startBy starting doBinary doUnary doTest doWhen doJump doPush doDup popping doStarg doStloc chooseUp choose doCall notNull doCallvirt doNewobj resumed return doRet doCast slotIn doLdfld withCell doStfld doLdsfld doStsfld doPlain act step admitOne admit firstMarks firstFrames first halted finished after steps runModule run decodeFrom starts targets allStart findOperands popsOne pushes plainEffect testEffect jumpEffect callEffect newobjEffect castEffect effect jumpFalls plainFalls falls joined meet arrive arrivals shapeAt visit visits checkMethod faultIn checkMethods checkModule check digits decimal signed hexDigit hex dash textOf faultLine endedLine lineOf space print play answer turn tablesOf refused saidRun saidCheck ran checks gives stops passes faulty starred asWritten methodBytes markedFirst baseNotStarted easyToGetWrong gotRight example exampleLine
-easy-to-get-wrong = refl
-
--- the example of `turn`
-pub turn-example : turn example ≡ exampleLine
-unfolding _>>=_ guard need blame pick onlyIf orElse orNext mapOption isNone isNil at row keepIf those firstRow lastOf onLast byteOf eqTy eqTys typeAt sortAt sortByte isSort partOf noMethod methodAt thisOf arguments asList due parentOf climbs descends isOwn layoutUp layout fieldTypes isStaticField slot rootUp root ofRoot initialiserOf refusal little nothing bodyBytes within follows parentFits classRecord noField fieldRoom fieldRecord returnAt overrideFits rootFree sortFits codeFits methodRecord latest withParam withLocal onLatest paramRecord localRecord isClass isInteger all noClass entryFits entryRecord oneRecord readRecord records eqReturns differs agreed load _to_ among kept ofTwo ofFive ofNine lengthOf _is_ op un const i4-s i4 i8 r8 branches loads operators objects instructions afterFE formOf target asForm fullForm andThen decodeByte decodeAt decode rowOf classOf fieldOf methodOf callable dispatched constructs operands refersTo fitsClass fits kind kindNumber same wrap holds divided checked integer wholeOf shifted double stored real relates relatesF relatesRef relationOf comparison flag meaning numberOf integersOf binaryOf conversion negOf notOf conv4Of conv8Of convFOf unaryOf testable value zeroOf bitsIn places get store freeFrom free noObject objectAt newObject typeOf fitsValue kindOf firsts fitAll undecodable operandFault tooFew tooMany wrongType pops pop1 pop2 room stateOf framesGone enter placeAt lowestFree moved withTop move moveWith push startedByField startedByCall isMarked mark startBy starting doBinary doUnary doTest doWhen doJump doPush doDup popping doStarg doStloc chooseUp choose doCall notNull doCallvirt doNewobj resumed return doRet doCast slotIn doLdfld withCell doStfld doLdsfld doStsfld doPlain act step admitOne admit firstMarks firstFrames first halted finished after steps runModule run decodeFrom starts targets allStart findOperands popsOne pushes plainEffect testEffect jumpEffect callEffect newobjEffect castEffect effect jumpFalls plainFalls falls joined meet arrive arrivals shapeAt visit visits checkMethod faultIn checkMethods checkModule check digits decimal signed hexDigit hex dash textOf faultLine endedLine lineOf space print play answer turn tablesOf refused saidRun saidCheck ran checks gives stops passes faulty starred asWritten methodBytes markedFirst baseNotStarted easyToGetWrong gotRight example exampleLine
-turn-example = refl
+-- those marked *, together; what is easy to get wrong, where none of them shows it; the example of `turn`
+pub listed : (starred ≡ asWritten) × (easyToGetWrong ≡ gotRight) × (turn example ≡ exampleLine)
+unfolding _>>=_ guard need blame pick onlyIf orElse mapOption isNone isNil at row keepIf those firstRow lastOf byteOf eqTy eqTys typeAt sortAt sortByte isSort
+    partOf methodAt asList due parentOf fieldTypes isStaticField slot initialiserOf refusal little nothing bodyBytes within follows parentFits classRecord
+    noField fieldRoom fieldRecord returnAt overrideFits rootFree sortFits codeFits methodRecord isClass all noClass entryFits entryRecord oneRecord readRecord
+    records differs agreed load sizeOf lengthBy lengthOf _is_ op const i4-s i4 branches loads operators objects instructions formOf target
+    asForm fullForm andThen decodeByte decodeAt decode rowOf fieldOf operands fits kind kindNumber same wrap holds divided checked integer wholeOf meaning
+    numberOf integersOf binaryOf testable value zeroOf bitsIn typeOf fitsValue kindOf firsts fitAll pops pop1 pop2 room enter moved withTop move moveWith push
+    startedByField isMarked mark startBy starting doBinary doTest doJump doPush popping resumed return doRet slotIn doLdsfld doStsfld doPlain act step admit
+    firstMarks firstFrames first halted finished after steps runModule run decodeFrom starts targets allStart findOperands pushes plainEffect testEffect
+    jumpEffect effect jumpFalls plainFalls falls joined meet arrive arrivals shapeAt visit visits checkMethod faultIn checkMethods checkModule check digits
+    decimal signed textOf endedLine lineOf space print play answer turn
+listed = (refl, refl, refl)

@@ -12,10 +12,16 @@ use lib.Seq.{length-take-le}
 use lib.Dec.{T, leb, ltb, eqb, eqb→eq, eqb-refl, leb→le, ltb→lt, T-not, not-T, nltb→le}
 use Rattle.model.specs.Answer.{ok, pick, orElse, isNone, at, row, keepIf, those, lastOf, onLast}
 use Rattle.model.specs.Tables.{mostClasses, mostFields, mostStatics, mostMethods, mostInstance, mostArguments, mostLocals, mostStack, mostLength}
-use Rattle.model.specs.Tables.{Ty, int32, int64, F, null, class, eqTys, typeAt, Sort, static, instance, virtual, constructor, initialiser, isSort, Field, Method, Module, partOf, noMethod, methodAt, thisOf, arguments, parentOf, descends, isOwn, layoutUp, layout, isStaticField, initialiserOf}
-use Rattle.model.specs.Loading.{Loading, nothing, within, follows, parentFits, classRecord, noField, fieldRoom, fieldRecord, returnAt, overrideFits, rootFree, sortFits, codeFits, methodRecord, latest, withParam, withLocal, onLatest, paramRecord, localRecord, isInteger, all, noClass, entryFits, entryRecord, oneRecord, readRecord, records, eqReturns, differs, agreed, load}
-use Rattle.model.proofs.Hoare.{Yields, yields-ok, yields-bind, yields-then, yields-need, yields-guard, yields-blame, yields-pick, yields-of, none-some, some-eq, bad-ok, and-l, and-r, or-e, by-test, implies, is-none, only-inv, map-inv, pick-inv, All, anil, all-snoc}
-use Rattle.model.proofs.Rows.{at-snoc, length-snoc, row-at, row-append, row-inside, those-snoc, those-none, first-none, last-snoc, length-onLast, onLast-at, row-onLast}
+use Rattle.model.specs.Tables.{Ty, int32, int64, F, null, class, eqTys, typeAt, Sort, static, instance, virtual, constructor, initialiser, isSort}
+use Rattle.model.specs.Tables.{Field, Method, Module, partOf, noMethod, methodAt, thisOf, arguments, parentOf, descends, isOwn, layoutUp, layout}
+use Rattle.model.specs.Tables.{isStaticField, initialiserOf}
+use Rattle.model.specs.Loading.{Loading, nothing, within, follows, parentFits, classRecord, noField, fieldRoom, fieldRecord, returnAt, overrideFits}
+use Rattle.model.specs.Loading.{rootFree, sortFits, codeFits, methodRecord, latest, withParam, withLocal, onLatest, paramRecord, localRecord, isInteger}
+use Rattle.model.specs.Loading.{all, noClass, entryFits, entryRecord, oneRecord, readRecord, records, eqReturns, differs, agreed, load}
+use Rattle.model.proofs.Hoare.{Yields, yields-ok, yields-bind, yields-then, yields-need, yields-guard, yields-blame, yields-pick, yields-of, none-some}
+use Rattle.model.proofs.Hoare.{some-eq, bad-ok, and-l, and-r, or-e, by-test, implies, is-none, only-inv, map-inv, pick-inv, All, anil, all-snoc}
+use Rattle.model.proofs.Rows.{at-snoc, length-snoc, row-at, row-append, row-inside, those-snoc, those-none, first-none, last-snoc, length-onLast}
+use Rattle.model.proofs.Rows.{onLast-at, row-onLast}
 use Rattle.model.proofs.Ancestors.{Falls, Above, descends-above, layout-parent, eqTy-eq, eqTys-eq}
 
 -- ---- The laws
@@ -270,7 +276,8 @@ module _ (ps : List ℕ) (w : Falls ps) (fs : List Field) (f : Field) where
         let q : length (keepIf (isOwn (suc c) f) f []) ≤ 1 = at-most (isOwn (suc c) f) in omega arith)))
       where
         own-static : (c : ℕ) → T (f .isStatic) → T (not (isOwn c f))
-        own-static c t = unfold isOwn in (not-T (eqb (f .owner) c && not (f .isStatic)) (λ s. T-not (f .isStatic) (and-r (eqb (f .owner) c) (not (f .isStatic)) s) t))
+        own-static c t =
+            unfold isOwn in (not-T (eqb (f .owner) c && not (f .isStatic)) (λ s. T-not (f .isStatic) (and-r (eqb (f .owner) c) (not (f .isStatic)) s) t))
 
         kept : (b : Bool) → T (not b) → length (keepIf b f []) ≡ 0
         kept true t = absurd t
@@ -304,18 +311,23 @@ field-loads code L o flag t k =
     yields-guard _ _ _ _ λ a. yields-guard _ _ _ _ λ b. yields-guard _ _ _ _ λ c. yields-need _ _ _ _ λ u e. yields-guard _ _ _ _ λ d.
     let f : Field = record { owner = o; isStatic = eqb flag 1; type = u } in
     let g : L .methods ≡ [] = k .noMethods (after-fields (L .last) (and-l (follows (L .last) 2) (leb (lastOf noField (L .fields) .owner) o) a)) in
-    let last : lastOf noField (L .fields) .owner ≤ o = leb→le (lastOf noField (L .fields) .owner) o (and-r (follows (L .last) 2) (leb (lastOf noField (L .fields) .owner) o) a) in
-    let sorted : (i : ℕ) (h : Field) → at (L .fields) i ≡ some h → h .owner ≤ o = λ i h q. (let l : h .owner ≤ lastOf noField (L .fields) .owner = k .sorted i h q in omega arith) in
-    let room = and-r (ltb (length (L .fields)) mostFields) (pick (eqb flag 1) (ltb (length (those isStaticField (L .fields))) mostStatics) (ltb (length (layout (L .parents) (L .fields) o)) mostInstance)) d in
+    let last : lastOf noField (L .fields) .owner ≤ o = leb→le (lastOf noField (L .fields) .owner) o
+    (and-r (follows (L .last) 2) (leb (lastOf noField (L .fields) .owner) o) a) in
+    let sorted : (i : ℕ) (h : Field) → at (L .fields) i ≡ some h → h .owner ≤ o = λ i h q.
+    (let l : h .owner ≤ lastOf noField (L .fields) .owner = k .sorted i h q in omega arith) in
+    let room = and-r (ltb (length (L .fields)) mostFields) (pick (eqb flag 1) (ltb (length (those isStaticField (L .fields))) mostStatics)
+    (ltb (length (layout (L .parents) (L .fields) o)) mostInstance)) d in
     yields-ok _ _ _ (record {
       parent = k .parent;
       classes = k .classes;
       field = λ i h q. at-snoc (L .fields) f i h q (λ r. k .field i h r)
-          (λ _ z. subst (λ (x : Field). FieldFits (length (L .parents)) x) z (record { low = within-low 1 _ o b; high = within-high 1 _ o b; type = declared (length (L .parents)) t u e }));
+          (λ _ z. subst (λ (x : Field). FieldFits (length (L .parents)) x) z
+          (record { low = within-low 1 _ o b; high = within-high 1 _ o b; type = declared (length (L .parents)) t u e }));
       fields = rw (length-snoc (L .fields) f) (ltb→lt (length (L .fields)) mostFields (and-l (ltb (length (L .fields)) mostFields) _ d));
       statics = static-most (L .fields) f (eqb flag 1) (length (layout (L .parents) (L .fields) o)) refl (k .statics) room;
       sorted = λ i h q. rw (last-snoc noField (L .fields) f) (at-snoc (L .fields) f i h q (λ r. sorted i h r) (λ _ z. rw (← z) (le-refl o)));
-      layouts = λ c. layout-most (L .parents) (parents-fall (L .parents) (k .parent)) (L .fields) f sorted (k .layouts) (λ s. own-room (eqb flag 1) (length (those isStaticField (L .fields))) (length (layout (L .parents) (L .fields) o)) s room) c c (le-refl c);
+      layouts = λ c. layout-most (L .parents) (parents-fall (L .parents) (k .parent)) (L .fields) f sorted (k .layouts)
+          (λ s. own-room (eqb flag 1) (length (those isStaticField (L .fields))) (length (layout (L .parents) (L .fields) o)) s room) c c (le-refl c);
       method = λ i m q. at-empty (L .methods) i m g q;
       methods = k .methods;
       override = λ i m q. at-empty (L .methods) i m g q;
@@ -377,8 +389,11 @@ unfolding overrideFits
 override-fits L m t z =
     let k : Method = methodAt (L .methods) (m .overridden) in
     or-e (eqb (m .overridden) 0) _ t (λ s. absurd (z (eqb→eq (m .overridden) 0 s))) λ a.
-    let b = and-r (isSort (m .sort) virtual) (within 1 (length (L .methods)) (m .overridden) && (isSort (k .sort) virtual && (not (eqb (k .owner) (m .owner)) && descends (L .parents) (m .owner) (k .owner)))) a in
-    let c = and-r (within 1 (length (L .methods)) (m .overridden)) (isSort (k .sort) virtual && (not (eqb (k .owner) (m .owner)) && descends (L .parents) (m .owner) (k .owner))) b in
+    let b = and-r (isSort (m .sort) virtual)
+    (within 1 (length (L .methods)) (m .overridden)
+    && (isSort (k .sort) virtual && (not (eqb (k .owner) (m .owner)) && descends (L .parents) (m .owner) (k .owner)))) a in
+    let c = and-r (within 1 (length (L .methods)) (m .overridden))
+    (isSort (k .sort) virtual && (not (eqb (k .owner) (m .owner)) && descends (L .parents) (m .owner) (k .owner))) b in
     let d = and-r (isSort (k .sort) virtual) (not (eqb (k .owner) (m .owner)) && descends (L .parents) (m .owner) (k .owner)) c in
     let w : T (within 1 (length (L .methods)) (m .overridden)) = and-l (within 1 (length (L .methods)) (m .overridden)) _ b in
     let low : 1 ≤ m .overridden = within-low 1 (length (L .methods)) (m .overridden) w in
@@ -389,7 +404,8 @@ override-fits L m t z =
       earlier = omega arith;
       overrides = and-l (isSort (m .sort) virtual) _ a;
       overridden = and-l (isSort (k .sort) virtual) _ c;
-      proper = λ e. T-not (eqb (k .owner) (m .owner)) (and-l (not (eqb (k .owner) (m .owner))) (descends (L .parents) (m .owner) (k .owner)) d) (rw e (eqb-refl (m .owner)));
+      proper = λ e. T-not (eqb (k .owner) (m .owner)) (and-l (not (eqb (k .owner) (m .owner))) (descends (L .parents) (m .owner) (k .owner)) d)
+          (rw e (eqb-refl (m .owner)));
       above = descends-above (L .parents) (m .owner) (k .owner) (and-r (not (eqb (k .owner) (m .owner))) (descends (L .parents) (m .owner) (k .owner)) d);
     }
 
@@ -421,8 +437,11 @@ sort-fits L m t =
     let one : Bool = isNone (initialiserOf (L .methods) (m .owner)) && (not (eqb (m .owner) 1) && isNone (m .returns)) in
     let a = and-l (not (isSort (m .sort) initialiser) || one) (not (isSort (m .sort) constructor) || isNone (m .returns)) t in
     let b = and-r (not (isSort (m .sort) initialiser) || one) (not (isSort (m .sort) constructor) || isNone (m .returns)) t in (
-      λ s. (let c = and-r (isNone (initialiserOf (L .methods) (m .owner))) (not (eqb (m .owner) 1) && isNone (m .returns)) (implies (isSort (m .sort) initialiser) one a s) in
-          (is-none (m .returns) (and-r (not (eqb (m .owner) 1)) (isNone (m .returns)) c), λ e. T-not (eqb (m .owner) 1) (and-l (not (eqb (m .owner) 1)) (isNone (m .returns)) c) (rw e (eqb-refl 1)))),
+      λ s. (let c = and-r (isNone (initialiserOf (L .methods) (m .owner))) (not (eqb (m .owner) 1) && isNone (m .returns))
+          (implies (isSort (m .sort) initialiser) one a s) in (
+            is-none (m .returns) (and-r (not (eqb (m .owner) 1)) (isNone (m .returns)) c),
+            λ e. T-not (eqb (m .owner) 1) (and-l (not (eqb (m .owner) 1)) (isNone (m .returns)) c) (rw e (eqb-refl 1)),
+          )),
       λ s. is-none (m .returns) (implies (isSort (m .sort) constructor) (isNone (m .returns)) b s),
     )
 
@@ -441,7 +460,8 @@ method-more code L m places k n f o = record {
   method = λ i x e. at-snoc (L .methods) m i x e (λ q. k .method i x q) (λ _ q. subst (λ (y : Method). MethodFits (length (L .parents)) code y) q f);
   methods = rw (length-snoc (L .methods) m) n;
   override = λ i x e z. at-snoc (L .methods) m i x e
-      (λ q. let h = k .override i x q z in overrides-named h (h .named) (same-refl (h .named)) (row-append (L .methods) (m ∷ []) (x .overridden) (h .named) (h .is)))
+      (λ q. let h = k .override i x q z in overrides-named h (h .named) (same-refl (h .named))
+      (row-append (L .methods) (m ∷ []) (x .overridden) (h .named) (h .is)))
       (λ y q. let h = override-fits L m o (λ v. z (ap (λ (a : Method). a .overridden) (sym q) ∙ v)) in
       subst (λ (a : Method). Overrides (L .parents) (L .methods ++ (m ∷ [])) (suc i) a) q
       (subst (λ (j : ℕ). Overrides (L .parents) (L .methods ++ (m ∷ [])) (suc j) m) (sym y)
@@ -455,9 +475,20 @@ method-loads : (code : List ℕ) (L : Loading) (place o s r most v offset size :
     → Yields (Loads code) (methodRecord code L place o s r most v offset size)
 unfolding methodRecord arguments
 method-loads code L place o s r most v offset size k =
-    yields-guard _ _ _ _ λ a. yields-guard _ _ _ _ λ b. yields-need _ _ _ _ λ sort e. yields-need _ _ _ _ λ u q. yields-guard _ _ _ _ λ c. yields-guard _ _ _ _ λ d. yields-guard _ _ _ _ λ g.
+    yields-guard _ _ _ _ λ a. yields-guard _ _ _ _ λ b. yields-need _ _ _ _ λ sort e. yields-need _ _ _ _ λ u q. yields-guard _ _ _ _ λ c.
+    yields-guard _ _ _ _ λ d. yields-guard _ _ _ _ λ g.
     yields-guard _ _ _ _ λ h.
-    let m : Method = record { owner = o; sort = sort; returns = u; maxStack = most; overridden = v; offset = offset; code = partOf code offset size; params = []; locals = [] } in
+    let m : Method = record {
+      owner = o;
+      sort = sort;
+      returns = u;
+      maxStack = most;
+      overridden = v;
+      offset = offset;
+      code = partOf code offset size;
+      params = [];
+      locals = [];
+    } in
     let f = sort-fits L m (and-r (rootFree L m) (sortFits L m) (and-r (overrideFits L m) (rootFree L m && sortFits L m) h)) in
     yields-ok _ _ _ (method-more code L m _ k (ltb→lt (length (L .methods)) mostMethods g)
     (record {
@@ -488,7 +519,8 @@ latest-loads code L n f same low high fit k = record {
   statics = k .statics;
   sorted = k .sorted;
   layouts = k .layouts;
-  method = λ i m e. onLast-at f noMethod (L .methods) i m e (λ q. k .method i m q) (λ q z. subst (λ (x : Method). MethodFits (length (L .parents)) code x) z (fit (k .method i _ q)));
+  method = λ i m e. onLast-at f noMethod (L .methods) i m e (λ q. k .method i m q)
+      (λ q z. subst (λ (x : Method). MethodFits (length (L .parents)) code x) z (fit (k .method i _ q)));
   methods = rw (length-onLast f (L .methods)) (k .methods);
   override = λ i m e z. onLast-at f noMethod (L .methods) i m e (λ q. moved (k .override i m q z))
       (λ q y. let s : Same (lastOf noMethod (L .methods)) m = subst (λ (x : Method). Same (lastOf noMethod (L .methods)) x) y (same _) in
@@ -539,14 +571,16 @@ param-loads : (code : List ℕ) (L : Loading) (t : ℕ) → Loads code L → Yie
 unfolding paramRecord
 param-loads code L t k =
     yields-guard _ _ _ _ λ _. yields-need _ _ _ _ λ u e. yields-guard _ _ _ _ λ c. yields-guard _ _ _ _ λ i.
-    yields-ok _ _ _ (latest-loads code L 4 (withParam u) (λ m. unfold withParam in (record { owner = refl; sort = refl; over = refl })) (omega arith) (omega arith)
+    yields-ok _ _ _ (latest-loads code L 4 (withParam u)
+    (λ m. unfold withParam in (record { owner = refl; sort = refl; over = refl })) (omega arith) (omega arith)
     (param-fits (length (L .parents)) code (latest L) u (declared (length (L .parents)) t u e) (ltb→lt (length (arguments (latest L))) mostArguments c) i) k)
 
 local-loads : (code : List ℕ) (L : Loading) (t : ℕ) → Loads code L → Yields (Loads code) (localRecord L t)
 unfolding localRecord
 local-loads code L t k =
     yields-guard _ _ _ _ λ _. yields-need _ _ _ _ λ u e. yields-guard _ _ _ _ λ c.
-    yields-ok _ _ _ (latest-loads code L 5 (withLocal u) (λ m. unfold withLocal in (record { owner = refl; sort = refl; over = refl })) (omega arith) (omega arith)
+    yields-ok _ _ _ (latest-loads code L 5 (withLocal u)
+    (λ m. unfold withLocal in (record { owner = refl; sort = refl; over = refl })) (omega arith) (omega arith)
     (local-fits (length (L .parents)) code (latest L) u (declared (length (L .parents)) t u e) (ltb→lt (length (latest L .locals)) mostLocals c)) k)
 
 entry-loads : (code : List ℕ) (L : Loading) (r : ℕ) → Loads code L → Yields (Loads code) (entryRecord L r)
@@ -645,7 +679,8 @@ loaded tables code M e = yields-of (Loaded code) (load tables code) M e (
       layouts = k .layouts;
       method = λ r m d. (let (i, _, b) = row-at (L .methods) r m d in k .method i m b);
       methods = k .methods;
-      override = λ r m d v. (let (i, a, b) = row-at (L .methods) r m d in subst (λ (x : ℕ). Overrides (L .parents) (L .methods) x m) (sym a) (k .override i m b v));
+      override = λ r m d v. (let (i, a, b) = row-at (L .methods) r m d in subst (λ (x : ℕ). Overrides (L .parents) (L .methods) x m) (sym a)
+          (k .override i m b v));
       agree = λ r m d v. (let (i, _, b) = row-at (L .methods) r m d in alike (L .methods) (1 + i) m (none-differs i m b) v);
       entry = k .entry (eqb→eq (L .last) 6 z);
     }))

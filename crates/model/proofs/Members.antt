@@ -10,11 +10,12 @@ use mathlib.Core.List.{List, []}
 use lib.ListN.{length, take}
 use lib.Dec.{T, eqb, eqb→eq, eqb-refl, T-not}
 use Rattle.model.specs.Answer.{orElse, orNext, at, row, those}
-use Rattle.model.specs.Tables.{mostStatics, mostInstance, Sort, static, instance, virtual, constructor, initialiser, isSort, sortByte, Field, Method, Module, methodAt, thisOf, arguments, parentOf, isOwn, layout, isStaticField, slot, rootUp, root, ofRoot, initialiserOf}
+use Rattle.model.specs.Tables.{Sort, static, instance, virtual, constructor, initialiser, isSort, sortByte, Field, Method, Module, methodAt, thisOf}
+use Rattle.model.specs.Tables.{arguments, parentOf, isOwn, layout, isStaticField, slot, rootUp, root, ofRoot, initialiserOf}
 use Rattle.model.specs.Code.{dispatched}
 use Rattle.model.specs.Step.{chooseUp, choose}
 use Rattle.model.proofs.Hoare.{and-l, and-r, and-i, pick-either, pick-no, pick-yes}
-use Rattle.model.proofs.Rows.{at-inside, at-after, row-at, method-is, at-those, first-at, first-none}
+use Rattle.model.proofs.Rows.{at-after, row-at, method-is, at-those, first-at, first-none}
 use Rattle.model.proofs.Ancestors.{Above, here, up, above-trans, above-pos, layout-parent}
 use Rattle.model.proofs.Loaded.{Like, Loaded}
 
@@ -74,12 +75,14 @@ module _ (code : List ℕ) (M : Module) (k : Loaded code M) where
       owned c q = unfold isOwn in (and-i (eqb (f .owner) c) (not (f .isStatic)) (rw q (eqb-refl c)) s)
 
       go : (i : ℕ) → r ≡ suc i → at (M .fields) i ≡ some f → (c : ℕ) → f .owner ≡ c → 1 ≤ c
-          → at (layout (M .parents) (M .fields) c) (length (layout (M .parents) (M .fields) (parentOf (M .parents) c)) + length (those (isOwn c) (take (r - 1) (M .fields)))) ≡ some f
+          → at (layout (M .parents) (M .fields) c)
+          (length (layout (M .parents) (M .fields) (parentOf (M .parents) c)) + length (those (isOwn c) (take (r - 1) (M .fields)))) ≡ some f
       go i z a zero q h = absurd (omega arith)
       go i z a (suc c) q h =
           let y : r - 1 ≡ i = omega arith in
           rw (y, layout-parent (M .parents) (M .fields) (k .falls) c)
-          (at-after (layout (M .parents) (M .fields) (parentOf (M .parents) (suc c))) (those (isOwn (suc c)) (M .fields)) (length (those (isOwn (suc c)) (take i (M .fields))))
+          (at-after (layout (M .parents) (M .fields) (parentOf (M .parents) (suc c))) (those (isOwn (suc c)) (M .fields))
+          (length (those (isOwn (suc c)) (take i (M .fields))))
           ∙ at-those (isOwn (suc c)) (M .fields) i f a (owned (suc c) q))
 
   -- a static field's cell among the static ones
@@ -90,18 +93,6 @@ module _ (code : List ℕ) (M : Module) (k : Loaded code M) where
       let (i, z, a) = row-at (M .fields) r f e in
       let y : r - 1 ≡ i = omega arith in
       rw (pick-yes (f .isStatic) _ _ s, y) (at-those isStaticField (M .fields) i f a s)
-
-  pub slot-most : (r : ℕ) (f : Field) → row (M .fields) r ≡ some f → T (not (f .isStatic)) → slot (M .parents) (M .fields) r f < mostInstance
-  slot-most r f e s =
-      let h : slot (M .parents) (M .fields) r f < length (layout (M .parents) (M .fields) (f .owner)) = at-inside _ _ f (slot-field r f e s) in
-      let l : length (layout (M .parents) (M .fields) (f .owner)) ≤ mostInstance = k .layouts (f .owner) in
-      omega arith
-
-  pub static-most : (r : ℕ) (f : Field) → row (M .fields) r ≡ some f → T (f .isStatic) → slot (M .parents) (M .fields) r f < mostStatics
-  static-most r f e s =
-      let h : slot (M .parents) (M .fields) r f < length (those isStaticField (M .fields)) = at-inside _ _ f (slot-static r f e s) in
-      let l : length (those isStaticField (M .fields)) ≤ mostStatics = k .statics in
-      omega arith
 
   -- ---- Initialisers
 
@@ -139,7 +130,15 @@ module _ (code : List ℕ) (M : Module) (k : Loaded code M) where
   root-up (suc n) r h e =
       let m : Method = methodAt (M .methods) r in
       pick-either (λ (q : ℕ). Rooted r q) (eqb (m .overridden) 0) r (rootUp (M .methods) n (m .overridden))
-      (λ t. record { is = e; first = eqb→eq (m .overridden) 0 t; earlier = le-refl r; above = here (k .method r m e .low); like = like-refl m; up = λ s. s; down = λ s. s })
+      (λ t. record {
+        is = e;
+        first = eqb→eq (m .overridden) 0 t;
+        earlier = le-refl r;
+        above = here (k .method r m e .low);
+        like = like-refl m;
+        up = λ s. s;
+        down = λ s. s;
+      })
       (λ t.
       let w : m .overridden ≢ 0 = λ z. T-not (eqb (m .overridden) 0) t (rw z (eqb-refl 0)) in
       let o = k .override r m e w in
@@ -182,10 +181,16 @@ module _ (code : List ℕ) (M : Module) (k : Loaded code M) where
       let d : row (M .methods) q ≡ some (f .what) = subst (λ (x : ℕ). row (M .methods) x ≡ some (f .what)) (sym z) (f .is) in
       let y : methodAt (M .methods) q ≡ f .what = method-is (M .methods) q (f .what) d in
       let o : f .what .owner ≡ c = eqb→eq (f .what .owner) c (and-l (eqb (f .what .owner) c) (eqb (root (M .methods) q) (root (M .methods) r)) (f .passes)) in
-      let g : root (M .methods) q ≡ root (M .methods) r = eqb→eq _ _ (and-r (eqb (f .what .owner) c) (eqb (root (M .methods) q) (root (M .methods) r)) (f .passes)) in
+      let g : root (M .methods) q ≡ root (M .methods) r = eqb→eq _ _ (and-r (eqb (f .what .owner) c) (eqb (root (M .methods) q) (root (M .methods) r))
+      (f .passes)) in
       let a : Rooted q (root (M .methods) r) = rw (← g) (rooted q (f .what) d) in
       let b : Rooted r (root (M .methods) r) = rooted r m i in
-      record { is = d ∙ ap some (sym y); above = rw (y, o) (here h); like = like-trans (a .like) (like-sym (b .like)); sort = virtual-dispatched _ (a .down (b .up v)) }
+      record {
+        is = d ∙ ap some (sym y);
+        above = rw (y, o) (here h);
+        like = like-trans (a .like) (like-sym (b .like));
+        sort = virtual-dispatched _ (a .down (b .up v));
+      }
 
   -- the named method's own class has one
   found-none : (r : ℕ) (m : Method) → row (M .methods) r ≡ some m → (c : ℕ) → m .owner ≡ c → ofRoot (M .methods) c (root (M .methods) r) ≡ none → ⊥
@@ -203,12 +208,14 @@ module _ (code : List ℕ) (M : Module) (k : Loaded code M) where
   unfolding chooseUp orNext
   taken-up r m e v zero c le a = let h : 0 < c = above-pos a in absurd (omega arith)
   taken-up r m e v (suc n) zero le a = let h : 0 < 0 = above-pos a in absurd (omega arith)
-  taken-up r m e v (suc n) (suc c) le a = go (λ p q. taken-up r m e v n (parentOf (M .parents) (suc c)) p q) (ofRoot (M .methods) (suc c) (root (M .methods) r)) refl
+  taken-up r m e v (suc n) (suc c) le a =
+      go (λ p q. taken-up r m e v n (parentOf (M .parents) (suc c)) p q) (ofRoot (M .methods) (suc c) (root (M .methods) r)) refl
     where
       rest : Option ℕ
       rest = chooseUp M (root (M .methods) r) n (parentOf (M .parents) (suc c))
 
-      go : (parentOf (M .parents) (suc c) ≤ n → Above (M .parents) (m .owner) (parentOf (M .parents) (suc c)) → (q : ℕ) × (rest ≡ some q) × Taken (parentOf (M .parents) (suc c)) r q)
+      go : (parentOf (M .parents) (suc c) ≤ n → Above (M .parents) (m .owner) (parentOf (M .parents) (suc c)) → (q : ℕ) × (rest ≡ some q)
+          × Taken (parentOf (M .parents) (suc c)) r q)
           → (o : Option ℕ) → ofRoot (M .methods) (suc c) (root (M .methods) r) ≡ o → (q : ℕ) × (orNext o rest ≡ some q) × Taken (suc c) r q
       go ih (some q) h = (q, refl, found-one (suc c) r q m e (omega arith) v h)
       go ih none h = above-split a (λ o. absurd (found-none r m e (suc c) o h))

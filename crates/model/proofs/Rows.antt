@@ -14,12 +14,6 @@ use Rattle.model.proofs.Hoare.{none-some, some-eq}
 
 -- ---- Elements by index
 
-pub at-inside : {A : Type 0} (l : List A) (i : ℕ) (a : A) → at l i ≡ some a → i < length l
-unfolding at
-at-inside [] i a e = none-some e
-at-inside (x ∷ l) zero a e = omega arith
-at-inside (x ∷ l) (suc i) a e = let h : i < length l = at-inside l i a e in omega arith
-
 pub at-some : {A : Type 0} (l : List A) (i : ℕ) → i < length l → (a : A) × (at l i ≡ some a)
 unfolding at
 at-some [] i h = absurd (omega arith)
@@ -73,7 +67,8 @@ method-is ms r m e = rw e
 -- a row in range
 pub row-inside : (ms : List Method) (r : ℕ) → 1 ≤ r → r ≤ length ms → row ms r ≡ some (methodAt ms r)
 row-inside ms zero h k = absurd (omega arith)
-row-inside ms (suc i) h k = let (m, e) = at-some ms i (omega arith) in let q : row ms (suc i) ≡ some m = (unfold row in e) in q ∙ ap some (sym (method-is ms (suc i) m q))
+row-inside ms (suc i) h k =
+    let (m, e) = at-some ms i (omega arith) in let q : row ms (suc i) ≡ some m = (unfold row in e) in q ∙ ap some (sym (method-is ms (suc i) m q))
 
 -- ---- Those that pass a test
 

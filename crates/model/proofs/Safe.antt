@@ -1,32 +1,35 @@
--- A module that loads and passes the check never gets stuck, and every state that its run goes through is as the check found it.
+-- A module that loads and passes the check never gets stuck, and the state that its run hands back is as the check found it.
 use mathlib.Core.Path.{_≡_, refl, sym, _∙_, subst}
 use Prim.Native.Nat.{ℕ, zero, suc}
 use native.Mathlib.Omega.{arith}
 use mathlib.Core.Option.{Option, none, some}
 use mathlib.Core.List.{List, [], _∷_}
 use lib.ListN.{length}
-use Rattle.model.specs.Answer.{Answer, bad, ok, orElse, row}
+use Rattle.model.specs.Answer.{Answer, bad, ok, row}
 use Rattle.model.specs.Tables.{mostObjects, static, Method, Module, methodAt, thisOf, arguments, initialiserOf}
 use Rattle.model.specs.Loading.{load}
 use Rattle.model.specs.State.{Value, Heap, places, Frame, Machine, enter}
 use Rattle.model.specs.Step.{Outcome, goes, ends, Allocator, lowestFree, step}
 use Rattle.model.specs.Run.{admit, firstFrames, first, Ended, halted, finished, after, steps, runModule, run}
-use Rattle.model.specs.Check.{Shape, Shapes, shapeAt, checkModule, check}
+use Rattle.model.specs.Check.{Shape, Shapes, checkModule, check, foundAt, shapeFound}
 use Rattle.model.proofs.Hoare.{NotStuck, Holds, ok-eq, bind-inv, need-inv, guard-inv, blame-inv}
 use Rattle.model.proofs.Ancestors.{Falls}
-use Rattle.model.proofs.Certificate.{Certificate, look-shape, foundAt, certificates}
+use Rattle.model.proofs.Certificate.{Certificate, certificates}
 use Rattle.model.proofs.Typing.{Fit, fnil, fit-length, fit-zero, places-fit, Grows, lowestFree-grows, admitted}
 use Rattle.model.proofs.Loaded.{Loaded, loaded}
 use Rattle.model.proofs.Members.{sort-eq, initialiser-is}
+use Rattle.model.proofs.Told.{tells}
 use Rattle.model.proofs.States.{Fine, on, end, Stands, alone, started, Standing, gone, running, AsFound, Good, good-found, gone-found, runs}
 use Rattle.model.proofs.Steps.{entered, step-ok}
 
 -- ---- What is claimed
 
--- the running frame's stack has the depth of the shape found for its method and offset, and each value fits the type found there
+-- the check found a shape where a frame stands, its stack has that depth, and each value fits the type found there
 pub record StackFound (M : Module) (found : List Shapes) (h : Heap) (f : Frame) : Type 0 where
-  pub depth : length (f .stack) ≡ length (shapeAt (orElse (row found (f .method)) []) (f .offset))
-  pub fits : Fit M h (f .stack) (shapeAt (orElse (row found (f .method)) []) (f .offset))
+  pub shape : Shape
+  pub finds : foundAt found (f .method) (f .offset) ≡ some shape
+  pub depth : length (f .stack) ≡ length shape
+  pub fits : Fit M h (f .stack) shape
 
 -- an end of a run that is not stuck, in a state as the check found it
 pub record Safe (M : Module) (found : List Shapes) (e : Ended) : Type 0 where
@@ -34,11 +37,9 @@ pub record Safe (M : Module) (found : List Shapes) (e : Ended) : Type 0 where
   pub state : AsFound M found (e .state)
   pub stack : (f : Frame) (fs : List Frame) → e .state .frames ≡ f ∷ fs → StackFound M found (e .state .heap) f
 
-stands-found : (M : Module) (found : List Shapes) → Falls (M .parents) → (h : Heap) (f : Frame) → Stands M found h (f .offset) [] f → StackFound M found h f
-unfolding foundAt
-stands-found M found w h f p =
-    let q : Fit M h (f .stack) (shapeAt (orElse (row found (f .method)) []) (f .offset)) = subst (λ (x : Shape). Fit M h (f .stack) x) (look-shape _ (f .offset) (p .shape) (p .finds)) (runs M found w p) in
-    record { depth = fit-length q; fits = q }
+pub stands-found : (M : Module) (found : List Shapes) → Falls (M .parents) → (h : Heap) (f : Frame) → Stands M found h (f .offset) [] f
+    → StackFound M found h f
+stands-found M found w h f p = let q = runs M found w p in record { shape = p .shape; finds = p .finds; depth = fit-length q; fits = q }
 
 frames-found : (M : Module) (found : List Shapes) → Falls (M .parents) → (h : Heap) {l : List Frame} → Standing M found h l → (f : Frame) (fs : List Frame)
     → l ≡ f ∷ fs → StackFound M found h f
@@ -51,7 +52,7 @@ safe-in M found w e n k = record { ending = n; state = k; stack = λ f fs q. fra
 -- ---- For any allocator that grows the heap
 
 module _ (code : List ℕ) (M : Module) (L : Loaded code M) (found : List Shapes) (c : checkModule M ≡ ok found) where
-  certified : (r : ℕ) (m : Method) → row (M .methods) r ≡ some m → Certificate M m (foundAt found r)
+  pub certified : (r : ℕ) (m : Method) → row (M .methods) r ≡ some m → Certificate M m (foundAt found r)
   certified = certificates M found (λ r m e. L .method r m e .bytes .least) c
 
   after-safe : (f : ℕ → Machine → Ended) → ((n : ℕ) (s : Machine) → Good M found s → Safe M found (f n s)) → (n : ℕ) (s : Machine) → Good M found s
@@ -65,7 +66,8 @@ module _ (code : List ℕ) (M : Module) (L : Loaded code M) (found : List Shapes
   pub steps-safe : (new : Allocator) → Grows new → (budget n : ℕ) (s : Machine) → Good M found s → Safe M found (steps new M budget n s)
   unfolding steps halted NotStuck
   steps-safe new G zero n s k = safe-in M found (L .falls) _ (omega arith) (good-found M found k)
-  steps-safe new G (suc budget) n s k = after-safe (steps new M budget) (steps-safe new G budget) n s k (step new M s) (step-ok code M L found certified s k new G)
+  steps-safe new G (suc budget) n s k =
+      after-safe (steps new M budget) (steps-safe new G budget) n s k (step new M s) (step-ok code M L found certified s k new G)
 
   first-frames : (f : Frame) (c : ℕ) → Stands M found (places mostObjects) (f .offset) [] f → (o : Option ℕ) → initialiserOf (M .methods) c ≡ o
       → Good M found (firstFrames M f o)
@@ -91,9 +93,9 @@ module _ (code : List ℕ) (M : Module) (L : Loaded code M) (found : List Shapes
       first-frames _ _ (entered code M L found certified (places mostObjects) (M .entry) _ (L .entry .is) vs
       (rw entry-arguments (admitted M (L .falls) (places mostObjects) _ args vs e))) _ refl
 
--- ---- The theorem
+-- ---- A whole run
 
--- no run of a module that loads and passes ends 41 to 46, and its last state is as the check found it
+-- no run of a module that loads and passes ends 41 to 46, and the state that it hands back is as the check found it
 pub safe : (tables code : List ℕ) (M : Module) (found : List Shapes) (args : List ℕ) (budget : ℕ) (e : Ended)
     → load tables code ≡ ok M → checkModule M ≡ ok found → runModule M args budget ≡ ok e → Safe M found e
 unfolding runModule
@@ -103,14 +105,6 @@ safe tables code M found args budget e l c r =
     let (_, e3) = guard-inv _ _ _ _ e2 in
     subst (λ (x : Ended). Safe M found x) (ok-eq e3)
     (steps-safe code M L found c lowestFree lowestFree-grows budget 0 (first M vs) (first-good code M L found c args vs e1))
-
--- before each step the state is as found: after k steps, for every k
-pub as-found : (tables code : List ℕ) (M : Module) (found : List Shapes) (args : List ℕ) (vs : List Value) (k : ℕ)
-    → load tables code ≡ ok M → checkModule M ≡ ok found → admit (methodAt (M .methods) (M .entry) .params) args ≡ some vs
-    → Safe M found (steps lowestFree M k 0 (first M vs))
-as-found tables code M found args vs k l c a =
-    let L = loaded tables code M l in
-    steps-safe code M L found c lowestFree lowestFree-grows k 0 (first M vs) (first-good code M L found c args vs a)
 
 -- ---- Of `check` and `run` alone
 
@@ -129,3 +123,19 @@ safe-run tables code found args budget e c r =
     let l : load tables code ≡ ok M = blame-inv _ _ _ c1 in
     let z : N ≡ M = ok-eq (sym r1 ∙ l) in
     record { model = M; loads = l; safe = safe tables code M found args budget e l c2 (subst (λ (x : Module). runModule x args budget ≡ ok e) z r2) }
+
+-- the running frame of a state handed back: `shapeFound` tells a shape for its method and offset, its stack has that depth, and each value fits
+pub record AsTold (tables code : List ℕ) (e : Ended) (f : Frame) : Type 0 where
+  pub model : Module
+  pub loads : load tables code ≡ ok model
+  pub shape : Shape
+  pub tells : shapeFound tables code (f .method) (f .offset) ≡ ok (some shape)
+  pub depth : length (f .stack) ≡ length shape
+  pub fits : Fit model (e .state .heap) (f .stack) shape
+
+pub handed-back : (tables code : List ℕ) (found : List Shapes) (args : List ℕ) (budget : ℕ) (e : Ended) → check tables code ≡ ok found
+    → run tables code args budget ≡ ok e → (f : Frame) (fs : List Frame) → e .state .frames ≡ f ∷ fs → AsTold tables code e f
+handed-back tables code found args budget e c r f fs q =
+    let k = safe-run tables code found args budget e c r in
+    let s = k .safe .stack f fs q in
+    record { model = k .model; loads = k .loads; shape = s .shape; tells = tells tables code found c _ _ _ (s .finds); depth = s .depth; fits = s .fits }

@@ -9,9 +9,8 @@ use Rattle.model.specs.Answer.{row, those}
 use Rattle.model.specs.Tables.{Ty, initialiser, isSort, Method, Module, methodAt, arguments, due, fieldTypes, isStaticField}
 use Rattle.model.specs.State.{Value, Heap, Frame, State, Machine, stateOf, framesGone}
 use Rattle.model.specs.Step.{Outcome, goes, ends}
-use Rattle.model.specs.Check.{Shape, Shapes}
+use Rattle.model.specs.Check.{Shape, Shapes, foundAt}
 use Rattle.model.proofs.Ancestors.{Falls, Below}
-use Rattle.model.proofs.Certificate.{foundAt}
 use Rattle.model.proofs.Typing.{Ext, Fit, fit-grow, fit-below, HeapFits}
 
 module _ (M : Module) (found : List Shapes) where
@@ -66,8 +65,16 @@ module _ (M : Module) (found : List Shapes) where
   gone-found k = record { heap = k .heap; statics = k .statics; frames = gone }
 
   pub stands-grow : {h k : Heap} → Ext h k → {o : ℕ} {ts : List Ty} {f : Frame} → Stands h o ts f → Stands k o ts f
-  stands-grow g p = record
-      { is = p .is; shape = p .shape; finds = p .finds; left = p .left; below = p .below; args = fit-grow g (p .args); locals = fit-grow g (p .locals); stack = fit-grow g (p .stack) }
+  stands-grow g p = record {
+    is = p .is;
+    shape = p .shape;
+    finds = p .finds;
+    left = p .left;
+    below = p .below;
+    args = fit-grow g (p .args);
+    locals = fit-grow g (p .locals);
+    stack = fit-grow g (p .stack);
+  }
 
   pub waiting-grow : {h k : Heap} → Ext h k → {m : Method} {fs : List Frame} → Waiting h m fs → Waiting k m fs
   waiting-grow g alone = alone

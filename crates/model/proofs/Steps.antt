@@ -8,18 +8,28 @@ use mathlib.Core.List.{List, [], _∷_, _++_, map}
 use lib.ListN.{getD, set}
 use lib.Dec.{T, lt→ltb}
 use Rattle.model.specs.Answer.{Answer, ok, _>>=_, guard, pick, isNil, at, row, those}
-use Rattle.model.specs.Tables.{Ty, class, Sort, static, instance, virtual, constructor, initialiser, isSort, sortByte, Field, Method, Module, methodAt, thisOf, arguments, asList, due, layout, fieldTypes, isStaticField, slot, initialiserOf}
-use Rattle.model.specs.Code.{Plain, nop, pop, dup, ret, ldc, binary, unary, Binary, Unary, Relation, Jump, always, iftrue, iffalse, when, Act, callable, dispatched, constructs}
-use Rattle.model.specs.State.{Value, vnull, vobject, zeroOf, bitsIn, Object, Heap, store, objectAt, newObject, fitsValue, room, Frame, Machine, enter}
-use Rattle.model.specs.Step.{Outcome, goes, Allocator, moved, withTop, move, moveWith, push, isMarked, startBy, starting, doBinary, doUnary, doTest, doWhen, doJump, doPush, doDup, popping, doStarg, doStloc, choose, doCall, doCallvirt, doNewobj, resumed, return, doRet, doCast, slotIn, doLdfld, withCell, doStfld, doLdsfld, doStsfld, doPlain, act, step}
-use Rattle.model.specs.Check.{Shape, Shapes, popsOne, pushes, plainEffect, testEffect, jumpEffect, callEffect, newobjEffect, castEffect, effect, jumpFalls, plainFalls, falls, targets}
-use Rattle.model.proofs.Hoare.{Holds, holds-bind, holds-ok, holds-bad, holds-need, holds-seek, holds-guard, holds-test, bind-inv, need-inv, guard-inv, bad-ok, ok-eq, pick-either, pick-no, pick-yes, All, acons}
+use Rattle.model.specs.Tables.{Ty, class, Sort, static, instance, virtual, constructor, initialiser, isSort, sortByte, Field, Method, Module, methodAt}
+use Rattle.model.specs.Tables.{thisOf, arguments, asList, due, layout, fieldTypes, isStaticField, slot, initialiserOf}
+use Rattle.model.specs.Code.{Plain, nop, pop, dup, ret, ldc, binary, unary, Binary, Unary, Relation, Jump, always, iftrue, iffalse, when, Act, callable}
+use Rattle.model.specs.Code.{dispatched, constructs}
+use Rattle.model.specs.State.{Value, vnull, vobject, zeroOf, bitsIn, Object, Heap, store, objectAt, newObject, fitsValue, checkNumber, stuckNumber}
+use Rattle.model.specs.State.{room, Frame, Machine, enter}
+use Rattle.model.specs.Step.{Outcome, goes, Allocator, moved, withTop, move, moveWith, push, isMarked, startBy, starting, doBinary, doUnary, doTest}
+use Rattle.model.specs.Step.{doWhen, doJump, doPush, doDup, popping, doStarg, doStloc, choose, doCall, doCallvirt, doNewobj, resumed, return, doRet}
+use Rattle.model.specs.Step.{doCast, slotIn, doLdfld, withCell, doStfld, doLdsfld, doStsfld, doPlain, act, step}
+use Rattle.model.specs.Check.{Shape, Shapes, popsOne, pushes, plainEffect, testEffect, jumpEffect, callEffect, newobjEffect, castEffect, effect}
+use Rattle.model.specs.Check.{jumpFalls, plainFalls, falls, targets, foundAt}
+use Rattle.model.proofs.Hoare.{Holds, holds-bind, holds-ok, holds-bad, holds-need, holds-seek, holds-guard, holds-test, bind-inv, need-inv, guard-inv}
+use Rattle.model.proofs.Hoare.{bad-ok, ok-eq, pick-either, pick-no, pick-yes, All, acons}
 use Rattle.model.proofs.Rows.{at-map, method-is}
 use Rattle.model.proofs.Ancestors.{Above, layout-prefix}
 use Rattle.model.proofs.Decoding.{decode-advances}
 use Rattle.model.proofs.Operands.{Stated, waits, operated}
-use Rattle.model.proofs.Certificate.{Lands, Certificate, foundAt}
-use Rattle.model.proofs.Typing.{Has, has-kind, has-value, has-null, Ext, ext-refl, Fit, fnil, fcons, fit-grow, fit-length, fit-append, fit-getD, fit-set, fit-zero, First, fit-first, pops-fit, pop1-fit, pop2-fit, HeapFits, Places, Grows, placed-ext, placed-fits, placed-has, has-object, store-ext, store-fits, leads, binary-calm, Calm}
+use Rattle.model.proofs.Certificate.{Lands, Certificate}
+use Rattle.model.proofs.Typing.{Has, has-kind, has-value, has-null, Ext, ext-refl, Fit, fnil, fcons, fit-grow, fit-length, fit-append, fit-getD}
+use Rattle.model.proofs.Typing.{fit-set, fit-zero, First, fit-first, pops-fit, pop1-fit, pop2-fit, HeapFits, Places, Grows, placed-ext, placed-fits}
+use Rattle.model.proofs.Typing.{placed-has, has-object, store-ext, store-fits, leads}
+use Rattle.model.proofs.Endings.{binary-calm}
 use Rattle.model.proofs.Loaded.{Like, Loaded}
 use Rattle.model.proofs.Members.{sort-eq, slot-field, slot-static, initialiser-is, Taken, taken}
 use Rattle.model.proofs.States.{Fine, on, end, Stands, Waiting, alone, called, started, Good, waiting-grow, runs}
@@ -65,8 +75,9 @@ unfolding guard
 guard-passed true n u e = tt
 guard-passed false n u e = bad-ok e
 
-holds-room : {B : Type 0} (P : B → Type 0) {M : Module} {h : Heap} (m : Method) (n : ℕ) {vs : List Value} {R : Shape} (f : Unit {0} → Answer ℕ B) (u : Unit {0})
-    → Fit M h vs R → room 10 m n R ≡ ok u → Holds P (f tt) → Holds P (room 40 m n vs >>= f)
+holds-room : {B : Type 0} (P : B → Type 0) {M : Module} {h : Heap} (m : Method) (n : ℕ) {vs : List Value} {R : Shape} (f : Unit {0} → Answer ℕ B)
+    (u : Unit {0})
+    → Fit M h vs R → room checkNumber m n R ≡ ok u → Holds P (f tt) → Holds P (room stuckNumber m n vs >>= f)
 unfolding room
 holds-room P m n f u p e k = holds-guard _ _ _ _ (rw (fit-length p) (guard-passed _ _ u e)) k
 
@@ -132,7 +143,8 @@ module _ (code : List ℕ) (M : Module) (L : Loaded code M) (found : List Shapes
     push-ok : (marks : List Bool) (h : Heap) (vs : List Value) (f : Frame) → Ext (s .heap) h → HeapFits M h → Stands M found h (f .offset) [] f
         → Waiting M found h (methodAt (M .methods) (f .method)) (moved (s .top) (s .top .offset) vs ∷ s .below) → Holds (Fine M found) (push s marks h vs f)
     unfolding push
-    push-ok marks h vs f g H p c = holds-test _ _ _ _ (omega arith) λ _. holds-ok _ _ (on (record { heap = H; statics = fit-grow g (k .statics); top = p; waiting = c }))
+    push-ok marks h vs f g H p c =
+        holds-test _ _ _ _ (omega arith) λ _. holds-ok _ _ (on (record { heap = H; statics = fit-grow g (k .statics); top = p; waiting = c }))
 
     -- a call of the method at a row, the rest of the stack waiting for its value
     call-ok : (marks : List Bool) (h : Heap) (rest : List Value) (R : Shape) (r : ℕ) (j : Method) (vs : List Value) → Ext (s .heap) h → HeapFits M h
@@ -142,7 +154,16 @@ module _ (code : List ℕ) (M : Module) (L : Loaded code M) (found : List Shapes
     call-ok marks h rest R r j vs g H f e t v a =
         push-ok marks h rest _ g H (entered h r j e vs v)
         (subst (λ (x : Method). Waiting M found h x (moved (s .top) (s .top .offset) rest ∷ s .below)) (sym (method-is (M .methods) r j e))
-        (called t (record { is = k .top .is; shape = a .shape; finds = a .is; left = R; below = a .below; args = fit-grow g (k .top .args); locals = fit-grow g (k .top .locals); stack = f })
+        (called t (record {
+          is = k .top .is;
+          shape = a .shape;
+          finds = a .is;
+          left = R;
+          below = a .below;
+          args = fit-grow g (k .top .args);
+          locals = fit-grow g (k .top .locals);
+          stack = f;
+        })
         (waiting-grow M found g (k .waiting))))
 
     startBy-ok : (c : ℕ) (f : List Bool → Answer ℕ Outcome) → ((marks : List Bool) → Holds (Fine M found) (f marks)) → (o : Option ℕ)
@@ -151,14 +172,15 @@ module _ (code : List ℕ) (M : Module) (L : Loaded code M) (found : List Shapes
     startBy-ok c f h none e = h _
     startBy-ok c f h (some r) e =
         let i = initialiser-is code M L c r e in
-        push-ok _ (s .heap) (s .top .stack) _ (ext-refl _) (k .heap) (entered (s .heap) r _ (i .is) [] (rw (i .args) fnil)) (started (i .sort) (k .top) (k .waiting))
+        push-ok _ (s .heap) (s .top .stack) _ (ext-refl _) (k .heap) (entered (s .heap) r _ (i .is) [] (rw (i .args) fnil))
+        (started (i .sort) (k .top) (k .waiting))
 
     -- the start of a class, if any, before the instruction
     starting-ok : (o : Option ℕ) (f : List Bool → Answer ℕ Outcome) → ((marks : List Bool) → Holds (Fine M found) (f marks))
         → Holds (Fine M found) (starting M s o f)
     unfolding starting
     starting-ok none f h = h _
-    starting-ok (some c) f h = pick-either (λ (x : Answer ℕ Outcome). Holds (Fine M found) x) (isMarked s c) _ _ (λ _. h _) (λ _. startBy-ok c f h (initialiserOf (M .methods) c) refl)
+    starting-ok (some c) f h = pick-either (λ (x : Answer ℕ Outcome). Holds (Fine M found) x) (isMarked s c) _ _ (λ _. h _) (λ _. startBy-ok _ f h _ refl)
 
     -- ---- Loads, stores, operators, branches
 
@@ -179,7 +201,7 @@ module _ (code : List ℕ) (M : Module) (L : Loaded code M) (found : List Shapes
 
     binary-ok : (o : Binary) (next : ℕ) (R : Shape) → plainEffect M this (binary o) (k .top .shape) ≡ ok R → Arrives next R
         → Holds (Fine M found) (doBinary s o next)
-    unfolding doBinary plainEffect Calm
+    unfolding doBinary plainEffect
     binary-ok o next R e a =
         let (p, e1, e2) = bind-inv _ _ _ e in
         let (g, e3, e4) = need-inv _ _ _ _ e2 in
@@ -262,7 +284,8 @@ module _ (code : List ℕ) (M : Module) (L : Loaded code M) (found : List Shapes
     cell-typed : (r : ℕ) (d : Field) → row (M .fields) r ≡ some d → T (not (d .isStatic)) → {c : ℕ} → Above (M .parents) (d .owner) c
         → at (fieldTypes (layout (M .parents) (M .fields) c)) (cellAt r d) ≡ some (d .type)
     unfolding fieldTypes
-    cell-typed r d e t a = at-map (λ (f : Field). f .type) _ (cellAt r d) d (layout-prefix (M .parents) (M .fields) (L .falls) a (cellAt r d) d (slot-field code M L r d e t))
+    cell-typed r d e t a =
+        at-map (λ (f : Field). f .type) _ (cellAt r d) d (layout-prefix (M .parents) (M .fields) (L .falls) a (cellAt r d) d (slot-field code M L r d e t))
 
     static-typed : (r : ℕ) (d : Field) → row (M .fields) r ≡ some d → T (d .isStatic)
         → at (fieldTypes (those isStaticField (M .fields))) (cellAt r d) ≡ some (d .type)
@@ -281,7 +304,8 @@ module _ (code : List ℕ) (M : Module) (L : Loaded code M) (found : List Shapes
         holds-bind _ _ _ _ (leads (k .heap) (fit-first (h .0) .this)) λ n l.
         let c = fit-getD (k .heap .cells n (l .object) (l .found)) (cellAt r d) (d .type) (zeroOf (d .type)) (cell-typed r d e t (l .above)) in
         moveWith-ok _ marks (s .heap) next _ (ext-refl _) (k .heap) (k .statics) (subst (λ (x : Shape). Arrives next x) (sym (ok-eq e2)) a)
-        (fcons (subst (λ (o : Object). Has M (s .heap) (getD (o .cells) (cellAt r d) (zeroOf (d .type))) (d .type)) (sym (l .is)) c) (subst (λ (x : Shape). Fit M (s .heap) (p .rest) x) (ok-eq e4) (h .1)))
+        (fcons (subst (λ (o : Object). Has M (s .heap) (getD (o .cells) (cellAt r d) (zeroOf (d .type))) (d .type)) (sym (l .is)) c)
+        (subst (λ (x : Shape). Fit M (s .heap) (p .rest) x) (ok-eq e4) (h .1)))
 
     stfld-ok : (r : ℕ) (d : Field) (next : ℕ) (R : Shape) → row (M .fields) r ≡ some d → T (not (d .isStatic))
         → effect M this (Act.stfld r d) (k .top .shape) ≡ ok R → Arrives next R → Holds (Fine M found) (doStfld M s r d next)
@@ -296,7 +320,8 @@ module _ (code : List ℕ) (M : Module) (L : Loaded code M) (found : List Shapes
         let z : x .class ≡ l .object .class = ap (λ (o : Object). o .class) (l .is) in
         let f : Fit M (s .heap) (x .cells) (fieldTypes (layout (M .parents) (M .fields) (x .class))) =
         subst (λ (o : Object). Fit M (s .heap) (set (o .cells) (cellAt r d) v) (fieldTypes (layout (M .parents) (M .fields) (o .class)))) (sym (l .is))
-        (fit-set (k .heap .cells n (l .object) (l .found)) (cellAt r d) (d .type) v (cell-typed r d e t (l .above)) (fit-getD (h .0) 1 (d .type) vnull refl)) in
+        (fit-set (k .heap .cells n (l .object) (l .found)) (cellAt r d) (d .type) v (cell-typed r d e t (l .above))
+        (fit-getD (h .0) 1 (d .type) vnull refl)) in
         let g : Ext (s .heap) (store (s .heap) n x) = store-ext (s .heap) n (l .object) x (l .found) z in
         moveWith-ok _ marks _ next _ g (store-fits M (s .heap) n (l .object) x (l .found) z f (k .heap)) (fit-grow g (k .statics)) a
         (fit-grow g (subst (λ (y : Shape). Fit M (s .heap) (p .rest) y) (ok-eq e2) (h .1)))
@@ -329,7 +354,8 @@ module _ (code : List ℕ) (M : Module) (L : Loaded code M) (found : List Shapes
         holds-bind _ _ _ _ (pops-fit (L .falls) (arguments j) top-fits P e1) λ p h.
         holds-room _ this _ _ u (h .1) e3 (
         starting-ok _ _ λ marks.
-        call-ok marks (s .heap) (p .rest) (P .rest) r j (p .got) (ext-refl _) (k .heap) (h .1) e t (h .0) (subst (λ (x : Shape). Arrives (s .top .offset + 5) x) (sym (ok-eq e4)) a))
+        call-ok marks (s .heap) (p .rest) (P .rest) r j (p .got) (ext-refl _) (k .heap) (h .1) e t (h .0)
+        (subst (λ (x : Shape). Arrives (s .top .offset + 5) x) (sym (ok-eq e4)) a))
 
     callvirt-ok : (r : ℕ) (j : Method) (R : Shape) → row (M .methods) r ≡ some j → T (dispatched (j .sort)) → callEffect M this j (k .top .shape) ≡ ok R
         → Arrives (s .top .offset + 5) R → Holds (Fine M found) (doCallvirt M s this r j)
@@ -340,14 +366,17 @@ module _ (code : List ℕ) (M : Module) (L : Loaded code M) (found : List Shapes
         let z : methodAt (M .methods) r ≡ j = method-is (M .methods) r j e in
         holds-bind _ _ _ _ (pops-fit (L .falls) (arguments j) top-fits P e1) λ p h.
         holds-room _ this _ _ u (h .1) e3 (
-        let f : First M (s .heap) (p .got) (class (j .owner)) (j .params) = fit-first (subst (λ (x : List Ty). Fit M (s .heap) (p .got) x) (dispatched-arguments j t) (h .0)) in
+        let f : First M (s .heap) (p .got) (class (j .owner)) (j .params) =
+        fit-first (subst (λ (x : List Ty). Fit M (s .heap) (p .got) x) (dispatched-arguments j t) (h .0)) in
         holds-bind _ _ _ _ (leads (k .heap) (f .this)) λ n l.
         let c : ℕ = choose M r j (objectAt (s .heap) n .class) in
         let i : Method = methodAt (M .methods) c in
-        let w : Taken code M L (objectAt (s .heap) n .class) r c = taken code M L r j e t _ (subst (λ (o : Object). Above (M .parents) (j .owner) (o .class)) (sym (l .is)) (l .above)) in
+        let w : Taken code M L (objectAt (s .heap) n .class) r c = taken code M L r j e t _
+        (subst (λ (o : Object). Above (M .parents) (j .owner) (o .class)) (sym (l .is)) (l .above)) in
         let y : Like i j = subst (λ (x : Method). Like i x) z (w .like) in
         let o : Has M (s .heap) (getD (p .got) 0 vnull) (class (i .owner)) =
-        rw (l .via) (has-object M (L .falls) (s .heap) n (l .object) (i .owner) (l .found) (subst (λ (o : Object). Above (M .parents) (i .owner) (o .class)) (l .is) (w .above))) in
+        rw (l .via) (has-object M (L .falls) (s .heap) n (l .object) (i .owner) (l .found)
+        (subst (λ (o : Object). Above (M .parents) (i .owner) (o .class)) (l .is) (w .above))) in
         starting-ok _ _ λ marks.
         call-ok marks (s .heap) (p .rest) (P .rest) c i (p .got) (ext-refl _) (k .heap) (h .1) (w .is) (dispatched-callable (i .sort) (w .sort))
         (rw (dispatched-arguments i (w .sort), y .params) (f .again (class (i .owner)) o))
@@ -367,7 +396,8 @@ module _ (code : List ℕ) (M : Module) (L : Loaded code M) (found : List Shapes
         let g : Places (s .heap) (newObject M (j .owner)) o = G s (newObject M (j .owner)) o e5 in
         let x : Ext (s .heap) (o .heap) = placed-ext g in
         let v : Has M (o .heap) (vobject (o .number)) (class (j .owner)) = placed-has M (L .falls) (m .low) g in
-        call-ok marks (o .heap) _ (class (j .owner) ∷ P .rest) r j _ x (placed-fits M (L .falls) (j .owner) (m .low) (m .high) g (k .heap)) (fcons v (fit-grow x (h .1))) e (constructor-callable (j .sort) t)
+        call-ok marks (o .heap) _ (class (j .owner) ∷ P .rest) r j _ x (placed-fits M (L .falls) (j .owner) (m .low) (m .high) g (k .heap))
+        (fcons v (fit-grow x (h .1))) e (constructor-callable (j .sort) t)
         (rw (constructor-arguments j t) (fcons v (fit-grow x (h .0))))
         (rw (m .constructs t) (subst (λ (y : Shape). Arrives (s .top .offset + 5) y) (sym (ok-eq e4)) a)))
 
@@ -377,7 +407,8 @@ module _ (code : List ℕ) (M : Module) (L : Loaded code M) (found : List Shapes
         → Holds (Fine M found) (ok (goes (record { top = f; below = fs; statics = s .statics; marks = s .marks; heap = s .heap })))
     back-ok f fs p ps = holds-ok _ _ (on (record { heap = k .heap; statics = k .statics; top = p; waiting = ps }))
 
-    return-ok : (vs : List Value) → Fit M (s .heap) vs (due this) → (fs : List Frame) → Waiting M found (s .heap) this fs → Holds (Fine M found) (return s this vs fs)
+    return-ok : (vs : List Value) → Fit M (s .heap) vs (due this) → (fs : List Frame) → Waiting M found (s .heap) this fs
+        → Holds (Fine M found) (return s this vs fs)
     unfolding return resumed moved
     return-ok vs f [] alone = holds-ok _ _ end
     return-ok vs f (g ∷ fs) (called t p ps) = rw (pick-no (isSort (this .sort) initialiser) g _ t)
@@ -446,4 +477,5 @@ module _ (code : List ℕ) (M : Module) (L : Loaded code M) (found : List Shapes
         holds-guard _ _ _ _ (lt→ltb _ _ (v .inside)) (
         holds-need _ _ _ _ _ (v .reads) (
         holds-need _ _ _ _ _ (v .finds) (
-        act-ok new G (v .act) (v .next) (v .brings) (o .stated) (λ t. decode-advances (this .code) (s .top .offset) _ (v .reads) .call (o .call t)) (v .passes) (v .away) (v .onward))))
+        act-ok new G (v .act) (v .next) (v .brings) (o .stated) (λ t. decode-advances (this .code) (s .top .offset) _ (v .reads) .call (o .call t))
+        (v .passes) (v .away) (v .onward))))

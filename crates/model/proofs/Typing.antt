@@ -9,17 +9,19 @@ use mathlib.Core.List.{List, [], _∷_, _++_, map}
 use lib.ListN.{length, getD, set, drop, replicate}
 use lib.Dec.{T, eqb, leb→le, T-not, eqb-refl, eqb→eq}
 use lib.Seq.{getD-set-same, getD-set-other}
-use mir.Syntax.{Width, w32, w64}
-use Rattle.model.specs.Answer.{Answer, ok, orElse, at}
+use Rattle.model.specs.Answer.{ok, orElse, at}
 use Rattle.model.specs.Tables.{Ty, int32, int64, F, null, class, Module, layout, fieldTypes}
-use Rattle.model.specs.Code.{Number, add, sub, mul, div, Whole, rem, div-un, rem-un, and, or, xor, add-ovf, mul-ovf, sub-ovf, Binary, number, whole, shift, compare}
-use Rattle.model.specs.Operators.{fits, Kind, k32, k64, kF, reference, kind, Meaning, divided, checked, integer, wholeOf, meaning, numberOf, integersOf, binaryOf}
-use Rattle.model.specs.State.{Value, vint32, vint64, vF, vnull, vobject, value, zeroOf, bitsIn, Object, Heap, places, get, store, freeFrom, free, objectAt, newObject, typeOf, fitsValue, kindOf, Popped, firsts, fitAll, pops, pop1, pop2, Machine}
+use Rattle.model.specs.Operators.{fits, k32, k64, kF, reference, kind}
+use Rattle.model.specs.State.{Value, vint32, vint64, vF, vnull, vobject, value, zeroOf, bitsIn, Object, Heap, places, get, store, freeFrom, free}
+use Rattle.model.specs.State.{objectAt, newObject, typeOf, fitsValue, kindOf, Popped, firsts, fitAll, checkNumber, stuckNumber, pops, pop1, pop2}
+use Rattle.model.specs.State.{Machine}
 use Rattle.model.specs.Step.{Placed, Allocator, placeAt, lowestFree, notNull}
 use Rattle.model.specs.Run.{admitOne, admit}
 use Rattle.model.specs.Check.{Shape}
-use Rattle.model.proofs.Hoare.{Holds, holds-ok, holds-guard, holds-test, guard-inv, only-inv, then-inv, map-inv, bad-ok, ok-eq, none-some, some-eq, and-l, and-r, and-i, by-test}
-use Rattle.model.proofs.Ancestors.{Falls, Above, here, Under, itself, nothing, derived, under-trans, fits-under, under-fits, under-kind, Below, bnil, bcons}
+use Rattle.model.proofs.Hoare.{Holds, holds-ok, holds-guard, holds-test, guard-inv, only-inv, then-inv, map-inv, bad-ok, ok-eq, none-some, some-eq}
+use Rattle.model.proofs.Hoare.{and-l, and-r, and-i, by-test}
+use Rattle.model.proofs.Ancestors.{Falls, Above, here, Under, itself, nothing, derived, under-trans, fits-under, under-fits, under-kind, Below, bnil}
+use Rattle.model.proofs.Ancestors.{bcons}
 
 -- a value that fits a type, and whose object, if it is a reference, is there
 pub record Has (M : Module) (h : Heap) (v : Value) (t : Ty) : Type 0 where
@@ -84,7 +86,8 @@ has-grow g {v = vnull} p = record { fit = p .fit; there = λ i e. apart cc }
 has-grow {M} {h} {k} g {v = vobject n} {t} p =
     let (o, e) = p .there n refl in
     let (q, f, z) = g .keeps n o e in
-    let y : objectAt h n .class ≡ objectAt k n .class = ap (λ (x : Object). x .class) (object-is h n o e) ∙ sym z ∙ sym (ap (λ (x : Object). x .class) (object-is k n q f)) in
+    let y : objectAt h n .class ≡ objectAt k n .class = ap (λ (x : Object). x .class) (object-is h n o e)
+    ∙ sym z ∙ sym (ap (λ (x : Object). x .class) (object-is k n q f)) in
     record { fit = subst (λ (c : ℕ). T (fits (M .parents) (class c) t)) y (p .fit); there = λ i r. (q, subst (λ (x : ℕ). get k x ≡ some q) (number-eq r) f) }
 
 -- ---- Lists of values
@@ -193,8 +196,8 @@ all-fit {M} w (fcons {t = s} {ts = S} p ps) (u ∷ ts) e t =
 
 -- values popped from a stack, the check having popped their types
 pub pops-fit : {M : Module} → Falls (M .parents) → {h : Heap} (ts : List Ty) {vs : List Value} {S : Shape} → Fit M h vs S → (P : Popped Ty)
-    → pops 10 (fits (M .parents)) ts S ≡ ok P
-    → Holds (λ p. Fit M h (p .got) ts × Fit M h (p .rest) (P .rest)) (pops 40 (fitsValue M h) ts vs)
+    → pops checkNumber (fits (M .parents)) ts S ≡ ok P
+    → Holds (λ p. Fit M h (p .got) ts × Fit M h (p .rest) (P .rest)) (pops stuckNumber (fitsValue M h) ts vs)
 unfolding pops
 pops-fit {M} w {h} ts {vs} {S} f P e =
     let (t, e1) = guard-inv _ _ _ _ e in
@@ -206,16 +209,16 @@ pops-fit {M} w {h} ts {vs} {S} f P e =
     holds-guard _ _ _ _ (fit-all k) (
     holds-ok _ _ (k, subst (λ (x : Popped Ty). Fit M h (drop (length ts) vs) (x .rest)) (ok-eq e2) (fit-drop (length ts) f))))
 
-pub pop1-fit : {M : Module} {h : Heap} {vs : List Value} {S : Shape} → Fit M h vs S → (p : (t : Ty) × Shape) → pop1 10 S ≡ ok p
-    → Holds (λ q. Has M h (q .0) (p .0) × Fit M h (q .1) (p .1)) (pop1 40 vs)
+pub pop1-fit : {M : Module} {h : Heap} {vs : List Value} {S : Shape} → Fit M h vs S → (p : (t : Ty) × Shape) → pop1 checkNumber S ≡ ok p
+    → Holds (λ q. Has M h (q .0) (p .0) × Fit M h (q .1) (p .1)) (pop1 stuckNumber vs)
 unfolding pop1
 pop1-fit fnil p e = bad-ok e
 pop1-fit {M} {h} (fcons {v = v} {t = t} {vs = vs} {ts = ts} q qs) p e =
     let i : (t, ts) ≡ p = cc in
     holds-ok _ _ (subst (λ (x : (t : Ty) × Shape). Has M h v (x .0) × Fit M h vs (x .1)) i (q, qs))
 
-pub pop2-fit : {M : Module} {h : Heap} {vs : List Value} {S : Shape} → Fit M h vs S → (p : (a : Ty) × (b : Ty) × Shape) → pop2 10 S ≡ ok p
-    → Holds (λ q. Has M h (q .0) (p .0) × Has M h (q .1) (p .1) × Fit M h (q .2) (p .2)) (pop2 40 vs)
+pub pop2-fit : {M : Module} {h : Heap} {vs : List Value} {S : Shape} → Fit M h vs S → (p : (a : Ty) × (b : Ty) × Shape) → pop2 checkNumber S ≡ ok p
+    → Holds (λ q. Has M h (q .0) (p .0) × Has M h (q .1) (p .1) × Fit M h (q .2) (p .2)) (pop2 stuckNumber vs)
 unfolding pop2
 pop2-fit fnil p e = bad-ok e
 pop2-fit (fcons q fnil) p e = bad-ok e
@@ -256,7 +259,8 @@ module _ (M : Module) (w : Falls (M .parents)) where
   unfolding newObject
   placed-fits {h} c {p} low high q k = record {
     class = λ n x e. by-number n (p .number)
-        (λ z. subst (λ (y : Object). (1 ≤ y .class) × (y .class ≤ length (M .parents))) (some-eq (sym (q .here) ∙ subst (λ (i : ℕ). get (p .heap) i ≡ some x) z e)) (low, high))
+        (λ z. subst (λ (y : Object). (1 ≤ y .class) × (y .class ≤ length (M .parents)))
+        (some-eq (sym (q .here) ∙ subst (λ (i : ℕ). get (p .heap) i ≡ some x) z e)) (low, high))
         (λ z. k .class n x (sym (q .others n z) ∙ e));
     cells = λ n x e. by-number n (p .number)
         (λ z. subst (λ (y : Object). Fit M (p .heap) (y .cells) (fieldTypes (layout (M .parents) (M .fields) (y .class))))
@@ -268,7 +272,8 @@ module _ (M : Module) (w : Falls (M .parents)) where
   pub has-object : (h : Heap) (n : ℕ) (o : Object) (d : ℕ) → get h n ≡ some o → Above (M .parents) d (o .class) → Has M h (vobject n) (class d)
   unfolding typeOf
   has-object h n o d e a =
-      has-of w (subst (λ (x : Object). Under (M .parents) (class (x .class)) (class d)) (sym (object-is h n o e)) (derived a)) (λ k r. (o, subst (λ (x : ℕ). get h x ≡ some o) (number-eq r) e))
+      has-of w (subst (λ (x : Object). Under (M .parents) (class (x .class)) (class d)) (sym (object-is h n o e)) (derived a))
+      (λ k r. (o, subst (λ (x : ℕ). get h x ≡ some o) (number-eq r) e))
 
   pub placed-has : {h : Heap} {c : ℕ} {p : Placed} → 0 < c → Places h (newObject M c) p → Has M (p .heap) (vobject (p .number)) (class c)
   unfolding newObject
@@ -354,10 +359,12 @@ pub store-fits : (M : Module) (h : Heap) (n : ℕ) (o x : Object) → get h n �
     → Fit M h (x .cells) (fieldTypes (layout (M .parents) (M .fields) (x .class)))
     → HeapFits M h → HeapFits M (store h n x)
 store-fits M h n o x e q p k = record {
-  class = λ i y f. get-store h n x i y f (λ g. k .class i y g) (λ g. subst (λ (c : ℕ). (1 ≤ c) × (c ≤ length (M .parents))) (sym q ∙ ap (λ (z : Object). z .class) g) (k .class n o e));
+  class = λ i y f. get-store h n x i y f (λ g. k .class i y g) (λ g. subst (λ (c : ℕ). (1 ≤ c) × (c ≤ length (M .parents)))
+      (sym q ∙ ap (λ (z : Object). z .class) g) (k .class n o e));
   cells = λ i y f. get-store h n x i y f
       (λ g. fit-grow (store-ext h n o x e q) (k .cells i y g))
-      (λ g. subst (λ (z : Object). Fit M (store h n x) (z .cells) (fieldTypes (layout (M .parents) (M .fields) (z .class)))) g (fit-grow (store-ext h n o x e q) p));
+      (λ g. subst (λ (z : Object). Fit M (store h n x) (z .cells) (fieldTypes (layout (M .parents) (M .fields) (z .class)))) g
+      (fit-grow (store-ext h n o x e q) p));
 }
 
 -- a reference of a class: null, or an object of the class or a derived one
@@ -390,65 +397,8 @@ pub record Leads (M : Module) (h : Heap) (v : Value) (d : ℕ) (n : ℕ) : Type 
 refers-leads : {M : Module} {h : Heap} {v : Value} {d : ℕ} → Refers M h d v → Holds (Leads M h v d) (notNull v)
 unfolding notNull bitsIn
 refers-leads toNull = holds-test _ _ _ _ (omega arith) λ t. absurd t
-refers-leads {h = h} (toObject {n = n} {o = o} e a) = holds-test _ _ _ _ (omega arith) λ _. holds-ok _ _ (record { via = refl; object = o; found = e; is = object-is h n o e; above = a })
+refers-leads {h = h} (toObject {n = n} {o = o} e a) =
+    holds-test _ _ _ _ (omega arith) λ _. holds-ok _ _ (record { via = refl; object = o; found = e; is = object-is h n o e; above = a })
 
 pub leads : {M : Module} {h : Heap} {v : Value} {d : ℕ} → HeapFits M h → Has M h v (class d) → Holds (Leads M h v d) (notNull v)
 leads k p = refers-leads (refers k p)
-
--- ---- Operators end in nothing but 31 to 33
-
-unfoldable pub Calm : Answer ℕ ℕ → Type 0
-Calm m = Holds (λ _. Unit {0}) m
-
-divided-calm : (w : Width) (f : _) (a b : ℕ) → Calm (divided w f a b)
-unfolding Calm divided
-divided-calm w f a b = holds-test _ _ _ _ (omega arith) λ _. holds-test _ _ _ _ (omega arith) λ _. holds-ok _ _ tt
-
-checked-calm : (w : Width) (f : _) (a b : ℕ) → Calm (checked w f a b)
-unfolding Calm checked
-checked-calm w f a b = holds-test _ _ _ _ (omega arith) λ _. holds-ok _ _ tt
-
-integer-calm : (w : Width) (o : Number) (a b : ℕ) → Calm (integer w o a b)
-unfolding Calm integer
-integer-calm w add a b = holds-ok _ _ tt
-integer-calm w sub a b = holds-ok _ _ tt
-integer-calm w mul a b = holds-ok _ _ tt
-integer-calm w div a b = divided-calm w _ a b
-
-whole-calm : (o : Whole) (w : Width) (a b : ℕ) → Calm (wholeOf w o a b)
-unfolding Calm wholeOf
-whole-calm rem w a b = divided-calm w _ a b
-whole-calm div-un w a b = holds-test _ _ _ _ (omega arith) λ _. holds-ok _ _ tt
-whole-calm rem-un w a b = holds-test _ _ _ _ (omega arith) λ _. holds-ok _ _ tt
-whole-calm and w a b = holds-ok _ _ tt
-whole-calm or w a b = holds-ok _ _ tt
-whole-calm xor w a b = holds-ok _ _ tt
-whole-calm add-ovf w a b = checked-calm w _ a b
-whole-calm mul-ovf w a b = checked-calm w _ a b
-whole-calm sub-ovf w a b = checked-calm w _ a b
-
-meaning-calm : (t : Ty) (f : ℕ → ℕ → Answer ℕ ℕ) (g : Meaning) → meaning t f ≡ some g → ((a b : ℕ) → Calm (f a b)) → (a b : ℕ) → Calm (g .bitsOf a b)
-unfolding meaning
-meaning-calm t f g e h a b = subst (λ (x : Meaning). Calm (x .bitsOf a b)) (some-eq e) (h a b)
-
-number-calm : (o : Number) (k : Kind) (g : Meaning) → numberOf o k ≡ some g → (a b : ℕ) → Calm (g .bitsOf a b)
-unfolding numberOf Calm
-number-calm o k32 g e = meaning-calm _ _ g e (integer-calm w32 o)
-number-calm o k64 g e = meaning-calm _ _ g e (integer-calm w64 o)
-number-calm o kF g e = meaning-calm _ _ g e (λ a b. holds-ok _ _ tt)
-number-calm o reference g e = none-some e
-
-integers-calm : (f : Width → ℕ → ℕ → Answer ℕ ℕ) → ((w : Width) (a b : ℕ) → Calm (f w a b)) → (k : Kind) (g : Meaning) → integersOf f k ≡ some g → (a b : ℕ)
-    → Calm (g .bitsOf a b)
-unfolding integersOf
-integers-calm f h k32 g e = meaning-calm _ _ g e (h w32)
-integers-calm f h k64 g e = meaning-calm _ _ g e (h w64)
-integers-calm f h kF g e = none-some e
-integers-calm f h reference g e = none-some e
-
-pub binary-calm : (o : Binary) (j k : Kind) (g : Meaning) → binaryOf o j k ≡ some g → (a b : ℕ) → Calm (g .bitsOf a b)
-unfolding binaryOf Calm
-binary-calm (number o) j k g e a b = let (_, q) = only-inv _ _ _ e in number-calm o j g q a b
-binary-calm (whole o) j k g e a b = let (_, q) = only-inv _ _ _ e in integers-calm _ (whole-calm o) j g q a b
-binary-calm (shift o) j k g e a b = let (_, q) = only-inv _ _ _ e in integers-calm _ (λ w x y. holds-ok _ _ tt) j g q a b
-binary-calm (compare r) j k g e a b = let (f, _, q) = map-inv _ _ _ e in subst (λ (x : Meaning). Calm (x .bitsOf a b)) q (holds-ok _ _ tt)

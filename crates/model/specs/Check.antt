@@ -1,16 +1,16 @@
 -- The check: methods by row, in each (a) decode, (b) operands and targets, (c) shapes by rising offset.
-use Prim.Native.Nat.{ℕ, zero, suc, _+_, _-_}
+use Prim.Native.Nat.{ℕ, zero, suc}
 use mathlib.Core.Bool.{Bool, true, false, not, _&&_, _||_}
 use mathlib.Core.Option.{Option, none, some}
 use mathlib.Core.List.{List, [], _∷_, _++_}
 use lib.ListN.{length, getD, set, replicate}
 use lib.Dec.{leb, ltb, eqb}
-use Rattle.model.specs.Answer.{Answer, bad, ok, _>>=_, guard, need, blame, pick, onlyIf, orElse, isNil, keepIf}
-use Rattle.model.specs.Tables.{Ty, int32, int64, F, null, class, eqTys, Field, Method, Module, arguments, due}
+use Rattle.model.specs.Answer.{Answer, ok, _>>=_, _>>_, guard, need, blame, pick, onlyIf, orElse, isNil, row, keepIf}
+use Rattle.model.specs.Tables.{Ty, class, eqTys, Method, Module, arguments, due}
 use Rattle.model.specs.Loading.{Refusal, refusal, load}
-use Rattle.model.specs.Code.{Plain, nop, pop, dup, ret, ldc, binary, unary, Jump, always, iftrue, iffalse, when, Decoded, decode, Ins, Act, operands}
+use Rattle.model.specs.Code.{Plain, nop, pop, dup, ret, ldc, binary, unary, Jump, always, iftrue, iffalse, when, decode, Ins, Act, operands}
 use Rattle.model.specs.Operators.{fits, kind, same, reference, binaryOf, unaryOf, comparison, testable}
-use Rattle.model.specs.State.{undecodable, operandFault, wrongType, pops, pop1, pop2, room}
+use Rattle.model.specs.State.{undecodable, operandFault, wrongType, checkNumber, pops, pop1, pop2, room, calling}
 
 -- the types on the stack, its top first
 abbrev pub Shape : Type 0
@@ -29,9 +29,10 @@ decodeFrom zero code o = ok []
 decodeFrom (suc n) code o =
     pick (leb (length code) o)
     (ok [])
-    (need (decode code o) (refusal o (undecodable 10)) >>= λ d.
-    decodeFrom n code (d .next) >>= λ l.
-    ok (record { offset = o; what = d .ins; next = d .next } ∷ l))
+    do
+      d ← need (decode code o) (refusal (checkNumber undecodable) o)
+      l ← decodeFrom n code (d .next)
+      ok (record { offset = o; what = d .ins; next = d .next } ∷ l)
 
 -- ---- (b) operand faults, and targets that start no instruction
 
@@ -63,54 +64,48 @@ allStart l (o ∷ os) = starts l o && allStart l os
 
 unfoldable pub findOperands : Module → Method → List (Site Ins) → List (Site Ins) → Answer Refusal (List (Site Act))
 findOperands M m all [] = ok []
-findOperands M m all (s ∷ l) =
-    need (operands M m (s .what)) (refusal (s .offset) (operandFault 10)) >>= λ a.
-    guard (allStart all (targets a)) (refusal (s .offset) (operandFault 10)) >>= λ _.
-    findOperands M m all l >>= λ k.
-    ok (record { offset = s .offset; what = a; next = s .next } ∷ k)
+findOperands M m all (s ∷ l) = do
+  a ← need (operands M m (s .what)) (refusal (checkNumber operandFault) (s .offset))
+  guard (allStart all (targets a)) (refusal (checkNumber operandFault) (s .offset))
+  k ← findOperands M m all l
+  ok (record { offset = s .offset; what = a; next = s .next } ∷ k)
 
 -- ---- (c) shapes
 
 -- one value of a type popped
 unfoldable pub popsOne : Module → Ty → Shape → Answer ℕ Shape
-popsOne M t S = pops 10 (fits (M .parents)) (t ∷ []) S >>= λ p. ok (p .rest)
+popsOne M t S = do p ← pops checkNumber (fits (M .parents)) (t ∷ []) S; ok (p .rest)
 
 unfoldable pub pushes : Method → Ty → Shape → Answer ℕ Shape
-pushes m t S = room 10 m 1 S >>= λ _. ok (t ∷ S)
+pushes m t S = do room checkNumber m 1 S; ok (t ∷ S)
 
 unfoldable pub plainEffect : Module → Method → Plain → Shape → Answer ℕ Shape
 plainEffect M m nop S = ok S
-plainEffect M m pop S = pop1 10 S >>= λ p. ok (p .1)
-plainEffect M m dup S = pop1 10 S >>= λ p. pushes m (p .0) S
-plainEffect M m ret S = pops 10 (fits (M .parents)) (due m) S >>= λ p. guard (isNil (p .rest)) (wrongType 10) >>= λ _. ok []
+plainEffect M m pop S = do p ← pop1 checkNumber S; ok (p .1)
+plainEffect M m dup S = do p ← pop1 checkNumber S; pushes m (p .0) S
+plainEffect M m ret S = do p ← pops checkNumber (fits (M .parents)) (due m) S; guard (isNil (p .rest)) (checkNumber wrongType); ok []
 plainEffect M m (ldc t n) S = pushes m t S
-plainEffect M m (binary o) S = pop2 10 S >>= λ p. need (binaryOf o (kind (p .0)) (kind (p .1))) (wrongType 10) >>= λ g. ok (g .gives ∷ p .2)
-plainEffect M m (unary o) S = pop1 10 S >>= λ p. need (unaryOf o (kind (p .0))) (wrongType 10) >>= λ g. ok (g .gives ∷ p .1)
+plainEffect M m (binary o) S = do p ← pop2 checkNumber S; g ← need (binaryOf o (kind (p .0)) (kind (p .1))) (checkNumber wrongType); ok (g .gives ∷ p .2)
+plainEffect M m (unary o) S = do p ← pop1 checkNumber S; g ← need (unaryOf o (kind (p .0))) (checkNumber wrongType); ok (g .gives ∷ p .1)
 
 unfoldable pub testEffect : Shape → Answer ℕ Shape
-testEffect S = pop1 10 S >>= λ p. guard (testable (kind (p .0))) (wrongType 10) >>= λ _. ok (p .1)
+testEffect S = do p ← pop1 checkNumber S; guard (testable (kind (p .0))) (checkNumber wrongType); ok (p .1)
 
 unfoldable pub jumpEffect : Jump → Shape → Answer ℕ Shape
 jumpEffect always S = ok S
 jumpEffect iftrue S = testEffect S
 jumpEffect iffalse S = testEffect S
-jumpEffect (when r) S = pop2 10 S >>= λ p. need (comparison r (kind (p .0)) (kind (p .1))) (wrongType 10) >>= λ _. ok (p .2)
+jumpEffect (when r) S = do p ← pop2 checkNumber S; need (comparison r (kind (p .0)) (kind (p .1))) (checkNumber wrongType); ok (p .2)
 
 unfoldable pub callEffect : Module → Method → Method → Shape → Answer ℕ Shape
-callEffect M m k S =
-    pops 10 (fits (M .parents)) (arguments k) S >>= λ p.
-    room 10 m (length (due k)) (p .rest) >>= λ _.
-    ok (due k ++ p .rest)
+callEffect M m k S = calling checkNumber (fits (M .parents)) m (arguments k) (length (due k)) S λ p. ok (due k ++ p .rest)
 
 unfoldable pub newobjEffect : Module → Method → Method → Shape → Answer ℕ Shape
-newobjEffect M m k S =
-    pops 10 (fits (M .parents)) (k .params) S >>= λ p.
-    room 10 m 1 (p .rest) >>= λ _.
-    ok (class (k .owner) ∷ p .rest)
+newobjEffect M m k S = calling checkNumber (fits (M .parents)) m (k .params) 1 S λ p. ok (class (k .owner) ∷ p .rest)
 
 -- after castclass and isinst the check finds the token's class
 unfoldable pub castEffect : ℕ → Shape → Answer ℕ Shape
-castEffect c S = pop1 10 S >>= λ p. guard (same (kind (p .0)) reference) (wrongType 10) >>= λ _. ok (class c ∷ p .1)
+castEffect c S = do p ← pop1 checkNumber S; guard (same (kind (p .0)) reference) (checkNumber wrongType); ok (class c ∷ p .1)
 
 -- the shape after an instruction: loads bring declared types; stores, arguments and returns need values that fit
 unfoldable pub effect : Module → Method → Act → Shape → Answer ℕ Shape
@@ -125,8 +120,8 @@ effect M m (Act.callvirt r k) S = callEffect M m k S
 effect M m (Act.newobj r k) S = newobjEffect M m k S
 effect M m (Act.castclass c) S = castEffect c S
 effect M m (Act.isinst c) S = castEffect c S
-effect M m (Act.ldfld r d) S = popsOne M (class (d .owner)) S >>= λ R. ok (d .type ∷ R)
-effect M m (Act.stfld r d) S = pops 10 (fits (M .parents)) (class (d .owner) ∷ d .type ∷ []) S >>= λ p. ok (p .rest)
+effect M m (Act.ldfld r d) S = do R ← popsOne M (class (d .owner)) S; ok (d .type ∷ R)
+effect M m (Act.stfld r d) S = do p ← pops checkNumber (fits (M .parents)) (class (d .owner) ∷ d .type ∷ []) S; ok (p .rest)
 effect M m (Act.ldsfld r d) S = pushes m (d .type) S
 effect M m (Act.stsfld r d) S = popsOne M (d .type) S
 
@@ -174,11 +169,11 @@ joined S R = onlyIf (eqTys S R) (some R)
 -- elsewhere the shape is what the first arrival brings
 unfoldable pub meet : Shapes → ℕ → Shape → Option Shape → Answer ℕ Shapes
 meet found o S none = ok (set found o (some S))
-meet found o S (some R) = need (joined S R) 16 >>= λ J. ok (set found o (some J))
+meet found o S (some R) = do J ← need (joined S R) 16; ok (set found o (some J))
 
 unfoldable pub arrive : Shapes → Shape → List ℕ → Answer ℕ Shapes
 arrive found S [] = ok found
-arrive found S (o ∷ os) = meet found o S (getD found o none) >>= λ more. arrive more S os
+arrive found S (o ∷ os) = do more ← meet found o S (getD found o none); arrive more S os
 
 -- where an instruction's shape arrives: the next instruction, if there is one and it can fall through, and its targets
 unfoldable pub arrivals : Method → Site Act → List ℕ
@@ -190,24 +185,24 @@ shapeAt found o = orElse (getD found o none) []
 
 -- one instruction, tested 13, 15, 14, 16, 17; 17: the last instruction can fall through
 unfoldable pub visit : Module → Method → Shapes → Site Act → Answer ℕ Shapes
-visit M m found s =
-    effect M m (s .what) (shapeAt found (s .offset)) >>= λ S.
-    arrive (set found (s .offset) (some (shapeAt found (s .offset)))) S (arrivals m s) >>= λ more.
-    guard (not (falls (s .what)) || ltb (s .next) (length (m .code))) 17 >>= λ _.
-    ok more
+visit M m found s = do
+  S ← effect M m (s .what) (shapeAt found (s .offset))
+  more ← arrive (set found (s .offset) (some (shapeAt found (s .offset)))) S (arrivals m s)
+  guard (not (falls (s .what)) || ltb (s .next) (length (m .code))) 17
+  ok more
 
 unfoldable pub visits : Module → Method → Shapes → List (Site Act) → Answer Refusal Shapes
 visits M m found [] = ok found
-visits M m found (s ∷ l) = blame (refusal (s .offset)) (visit M m found s) >>= λ more. visits M m more l
+visits M m found (s ∷ l) = do more ← blame (λ number. refusal number (s .offset)) (visit M m found s); visits M m more l
 
 -- ---- Methods by row
 
 -- the shapes of a method, or its first fault with the offset
 unfoldable pub checkMethod : Module → Method → Answer Refusal Shapes
-checkMethod M m =
-    decodeFrom (length (m .code)) (m .code) 0 >>= λ l.
-    findOperands M m l l >>= λ k.
-    visits M m (replicate (length (m .code)) none) k
+checkMethod M m = do
+  l ← decodeFrom (length (m .code)) (m .code) 0
+  k ← findOperands M m l l
+  visits M m (replicate (length (m .code)) none) k
 
 -- a fault: number, method row and offset
 pub record Fault : Type 0 where
@@ -221,11 +216,21 @@ faultIn r f = record { number = f .number; method = r; offset = f .place }
 -- the shapes of the methods from row r on
 unfoldable pub checkMethods : Module → ℕ → List Method → Answer Fault (List Shapes)
 checkMethods M r [] = ok []
-checkMethods M r (m ∷ ms) = blame (faultIn r) (checkMethod M m) >>= λ found. checkMethods M (suc r) ms >>= λ l. ok (found ∷ l)
+checkMethods M r (m ∷ ms) = do found ← blame (faultIn r) (checkMethod M m); l ← checkMethods M (suc r) ms; ok (found ∷ l)
 
 unfoldable pub checkModule : Module → Answer Fault (List Shapes)
 checkModule M = checkMethods M 1 (M .methods)
 
 -- checking loads first and passes a refusal on, with method 0 and its place
 unfoldable pub check : List ℕ → List ℕ → Answer Fault (List Shapes)
-check tables code = blame (faultIn 0) (load tables code) >>= λ M. checkModule M
+check tables code = do M ← blame (faultIn 0) (load tables code); checkModule M
+
+-- ---- The shape found, told
+
+-- the shape found before the instruction at an offset of the method at a row; none where no instruction starts, or no method is there
+unfoldable pub foundAt : List Shapes → ℕ → ℕ → Option Shape
+foundAt found r o = getD (orElse (row found r) []) o none
+
+-- a refusal of loading and a fault of the check are passed on
+unfoldable pub shapeFound : List ℕ → List ℕ → ℕ → ℕ → Answer Fault (Option Shape)
+shapeFound tables code r o = do found ← check tables code; ok (foundAt found r o)

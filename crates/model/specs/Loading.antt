@@ -5,9 +5,11 @@ use mathlib.Core.Option.{Option, none, some}
 use mathlib.Core.List.{List, [], _∷_, _++_}
 use lib.ListN.{length, getD, drop}
 use lib.Dec.{leb, ltb, eqb}
-use Rattle.model.specs.Answer.{Answer, bad, ok, _>>=_, guard, need, blame, pick, onlyIf, mapOption, isNone, those, firstRow, lastOf, onLast}
-use Rattle.model.specs.Tables.{mostTables, mostCode, mostClasses, mostFields, mostStatics, mostMethods, mostInstance, mostArguments, mostLocals, mostStack, mostLength}
-use Rattle.model.specs.Tables.{Ty, int32, int64, F, null, class, eqTy, eqTys, typeAt, Sort, static, instance, virtual, constructor, initialiser, sortAt, isSort, Field, Method, Module, partOf, noMethod, methodAt, arguments, descends, layout, isStaticField, root, ofRoot, initialiserOf}
+use Rattle.model.specs.Answer.{Answer, bad, ok, _>>=_, _>>_, guard, need, blame, pick, onlyIf, mapOption, isNone, those, firstRow, lastOf, onLast}
+use Rattle.model.specs.Tables.{mostTables, mostCode, mostClasses, mostFields, mostStatics, mostMethods, mostInstance, mostArguments, mostLocals}
+use Rattle.model.specs.Tables.{mostStack, mostLength}
+use Rattle.model.specs.Tables.{Ty, int32, int64, F, null, class, eqTy, eqTys, typeAt, static, virtual, constructor, initialiser, sortAt, isSort, Field}
+use Rattle.model.specs.Tables.{Method, Module, partOf, noMethod, methodAt, arguments, descends, layout, isStaticField, root, ofRoot, initialiserOf}
 
 -- a refusal: its number and place
 pub record Refusal : Type 0 where
@@ -15,7 +17,7 @@ pub record Refusal : Type 0 where
   pub place : ℕ
 
 unfoldable pub refusal : ℕ → ℕ → Refusal
-refusal p n = record { number = n; place = p }
+refusal n p = record { number = n; place = p }
 
 -- numbers longer than a byte are little-endian: the first n bytes of a list
 unfoldable pub little : ℕ → List ℕ → ℕ
@@ -64,11 +66,11 @@ unfoldable pub parentFits : ℕ → ℕ → Bool
 parentFits n p = pick (eqb n 0) (eqb p 0) (within 1 n p)
 
 unfoldable pub classRecord : Loading → ℕ → Answer ℕ Loading
-classRecord L p =
-    guard (follows (L .last) 1) 3 >>= λ _.
-    guard (parentFits (length (L .parents)) p) 4 >>= λ _.
-    guard (ltb (length (L .parents)) mostClasses) 5 >>= λ _.
-    ok (record { last = 1; parents = L .parents ++ (p ∷ []); fields = L .fields; methods = L .methods; places = L .places; entry = L .entry })
+classRecord L p = do
+  guard (follows (L .last) 1) 3
+  guard (parentFits (length (L .parents)) p) 4
+  guard (ltb (length (L .parents)) mostClasses) 5
+  ok (record { last = 1; parents = L .parents ++ (p ∷ []); fields = L .fields; methods = L .methods; places = L .places; entry = L .entry })
 
 -- ---- A field
 
@@ -84,20 +86,20 @@ fieldRoom L o flag =
     (ltb (length (layout (L .parents) (L .fields) o)) mostInstance)
 
 unfoldable pub fieldRecord : Loading → ℕ → ℕ → ℕ → Answer ℕ Loading
-fieldRecord L o flag t =
-    guard (follows (L .last) 2 && leb (lastOf noField (L .fields) .owner) o) 3 >>= λ _.
-    guard (within 1 (length (L .parents)) o) 4 >>= λ _.
-    guard (leb flag 1) 4 >>= λ _.
-    need (typeAt (length (L .parents)) t) 4 >>= λ u.
-    guard (fieldRoom L o flag) 5 >>= λ _.
-    ok (record {
-      last = 2;
-      parents = L .parents;
-      methods = L .methods;
-      places = L .places;
-      entry = L .entry;
-      fields = L .fields ++ (record { owner = o; isStatic = eqb flag 1; type = u } ∷ []);
-    })
+fieldRecord L o flag t = do
+  guard (follows (L .last) 2 && leb (lastOf noField (L .fields) .owner) o) 3
+  guard (within 1 (length (L .parents)) o) 4
+  guard (leb flag 1) 4
+  u ← need (typeAt (length (L .parents)) t) 4
+  guard (fieldRoom L o flag) 5
+  ok (record {
+    last = 2;
+    parents = L .parents;
+    methods = L .methods;
+    places = L .places;
+    entry = L .entry;
+    fields = L .fields ++ (record { owner = o; isStatic = eqb flag 1; type = u } ∷ []);
+  })
 
 -- ---- A method
 
@@ -130,24 +132,34 @@ unfoldable pub codeFits : List ℕ → ℕ → ℕ → Bool
 codeFits code offset size = within 1 mostLength size && leb (offset + size) (length code)
 
 unfoldable pub methodRecord : List ℕ → Loading → ℕ → ℕ → ℕ → ℕ → ℕ → ℕ → ℕ → ℕ → Answer ℕ Loading
-methodRecord code L place o s r most v offset size =
-    guard (follows (L .last) 3) 3 >>= λ _.
-    guard (within 1 (length (L .parents)) o) 4 >>= λ _.
-    need (sortAt s) 4 >>= λ k.
-    need (returnAt (length (L .parents)) r) 4 >>= λ u.
-    guard (leb most mostStack) 4 >>= λ _.
-    guard (codeFits code offset size) 4 >>= λ _.
-    guard (ltb (length (L .methods)) mostMethods) 5 >>= λ _.
-    let m : Method = record { owner = o; sort = k; returns = u; maxStack = most; overridden = v; offset = offset; code = partOf code offset size; params = []; locals = [] } in
-    guard (overrideFits L m && (rootFree L m && sortFits L m)) 6 >>= λ _.
-    ok (record {
-      last = 3;
-      parents = L .parents;
-      fields = L .fields;
-      entry = L .entry;
-      methods = L .methods ++ (m ∷ []);
-      places = L .places ++ (place ∷ []);
-    })
+methodRecord code L place o s r most v offset size = do
+  guard (follows (L .last) 3) 3
+  guard (within 1 (length (L .parents)) o) 4
+  k ← need (sortAt s) 4
+  u ← need (returnAt (length (L .parents)) r) 4
+  guard (leb most mostStack) 4
+  guard (codeFits code offset size) 4
+  guard (ltb (length (L .methods)) mostMethods) 5
+  let m : Method = record {
+    owner = o;
+    sort = k;
+    returns = u;
+    maxStack = most;
+    overridden = v;
+    offset = offset;
+    code = partOf code offset size;
+    params = [];
+    locals = [];
+  }
+  guard (overrideFits L m && (rootFree L m && sortFits L m)) 6
+  ok (record {
+    last = 3;
+    parents = L .parents;
+    fields = L .fields;
+    entry = L .entry;
+    methods = L .methods ++ (m ∷ []);
+    places = L .places ++ (place ∷ []);
+  })
 
 -- ---- A parameter or a local, of the method before it
 
@@ -184,19 +196,19 @@ unfoldable pub onLatest : ℕ → (Method → Method) → Loading → Loading
 onLatest k f L = record { last = k; parents = L .parents; fields = L .fields; methods = onLast f (L .methods); places = L .places; entry = L .entry }
 
 unfoldable pub paramRecord : Loading → ℕ → Answer ℕ Loading
-paramRecord L t =
-    guard (follows (L .last) 4) 3 >>= λ _.
-    need (typeAt (length (L .parents)) t) 4 >>= λ u.
-    guard (ltb (length (arguments (latest L))) mostArguments) 5 >>= λ _.
-    guard (not (isSort (latest L .sort) initialiser)) 6 >>= λ _.
-    ok (onLatest 4 (withParam u) L)
+paramRecord L t = do
+  guard (follows (L .last) 4) 3
+  u ← need (typeAt (length (L .parents)) t) 4
+  guard (ltb (length (arguments (latest L))) mostArguments) 5
+  guard (not (isSort (latest L .sort) initialiser)) 6
+  ok (onLatest 4 (withParam u) L)
 
 unfoldable pub localRecord : Loading → ℕ → Answer ℕ Loading
-localRecord L t =
-    guard (follows (L .last) 5) 3 >>= λ _.
-    need (typeAt (length (L .parents)) t) 4 >>= λ u.
-    guard (ltb (length (latest L .locals)) mostLocals) 5 >>= λ _.
-    ok (onLatest 5 (withLocal u) L)
+localRecord L t = do
+  guard (follows (L .last) 5) 3
+  u ← need (typeAt (length (L .parents)) t) 4
+  guard (ltb (length (latest L .locals)) mostLocals) 5
+  ok (onLatest 5 (withLocal u) L)
 
 -- ---- The entry
 
@@ -224,11 +236,11 @@ unfoldable pub entryFits : Method → Bool
 entryFits m = isSort (m .sort) static && (all isInteger (m .params) && noClass (m .returns))
 
 unfoldable pub entryRecord : Loading → ℕ → Answer ℕ Loading
-entryRecord L r =
-    guard (follows (L .last) 6) 3 >>= λ _.
-    guard (within 1 (length (L .methods)) r) 4 >>= λ _.
-    guard (entryFits (methodAt (L .methods) r)) 6 >>= λ _.
-    ok (record { last = 6; parents = L .parents; fields = L .fields; methods = L .methods; places = L .places; entry = r })
+entryRecord L r = do
+  guard (follows (L .last) 6) 3
+  guard (within 1 (length (L .methods)) r) 4
+  guard (entryFits (methodAt (L .methods) r)) 6
+  ok (record { last = 6; parents = L .parents; fields = L .fields; methods = L .methods; places = L .places; entry = r })
 
 -- ---- Record by record
 
@@ -249,11 +261,11 @@ pub record Read : Type 0 where
 
 -- unknown kind or a missing body byte is 2; l is the tables from the record on
 unfoldable pub readRecord : List ℕ → Loading → ℕ → List ℕ → Answer ℕ Read
-readRecord code L place l =
-    need (bodyBytes (getD l 0 0)) 2 >>= λ n.
-    guard (ltb n (length l)) 2 >>= λ _.
-    oneRecord code L place (getD l 0 0) (drop 1 l) >>= λ K.
-    ok (record { loading = K; size = n + 1 })
+readRecord code L place l = do
+  n ← need (bodyBytes (getD l 0 0)) 2
+  guard (ltb n (length l)) 2
+  K ← oneRecord code L place (getD l 0 0) (drop 1 l)
+  ok (record { loading = K; size = n + 1 })
 
 -- the records from an offset on, n at most
 unfoldable pub records : ℕ → List ℕ → List ℕ → ℕ → Loading → Answer Refusal Loading
@@ -261,7 +273,7 @@ records zero tables code o L = ok L
 records (suc n) tables code o L =
     pick (leb (length tables) o)
     (ok L)
-    (blame (refusal o) (readRecord code L o (drop o tables)) >>= λ R. records n tables code (o + R .size) (R .loading))
+    do R ← blame (λ number. refusal number o) (readRecord code L o (drop o tables)); records n tables code (o + R .size) (R .loading)
 
 -- ---- After the last record
 
@@ -280,12 +292,12 @@ differs ms r m =
 -- 7: offset of the lowest such method
 unfoldable pub agreed : Loading → Option ℕ → Answer Refusal (Unit {0})
 agreed L none = ok tt
-agreed L (some r) = bad (refusal (getD (L .places) (r - 1) 0) 7)
+agreed L (some r) = bad (refusal 7 (getD (L .places) (r - 1) 0))
 
 unfoldable pub load : List ℕ → List ℕ → Answer Refusal Module
-load tables code =
-    guard (leb (length tables) mostTables && leb (length code) mostCode) (refusal 0 1) >>= λ _.
-    records (length tables) tables code 0 nothing >>= λ L.
-    guard (eqb (L .last) 6) (refusal (length tables) 3) >>= λ _.
-    agreed L (firstRow (differs (L .methods)) 1 (L .methods)) >>= λ _.
-    ok (record { parents = L .parents; fields = L .fields; methods = L .methods; entry = L .entry })
+load tables code = do
+  guard (leb (length tables) mostTables && leb (length code) mostCode) (refusal 1 0)
+  L ← records (length tables) tables code 0 nothing
+  guard (eqb (L .last) 6) (refusal 3 (length tables))
+  agreed L (firstRow (differs (L .methods)) 1 (L .methods))
+  ok (record { parents = L .parents; fields = L .fields; methods = L .methods; entry = L .entry })

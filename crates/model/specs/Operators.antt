@@ -1,8 +1,8 @@
 -- Operators: which types each takes, what it gives, and its value over the whole numbers and IEEE 754 doubles.
-use Prim.Native.Nat.{ℕ, zero, suc, _+_, _-_, _*_, _/_, _%_, _^_}
-use mathlib.Core.Bool.{Bool, true, false, not, _&&_, _||_}
+use Prim.Native.Nat.{ℕ, suc, _-_, _*_, _/_, _%_, _^_}
+use mathlib.Core.Bool.{Bool, true, false, not, _||_}
 use mathlib.Core.Option.{Option, none, some}
-use mathlib.Core.List.{List, [], _∷_}
+use mathlib.Core.List.{List}
 use lib.Dec.{leb, ltb, eqb}
 use lib.Bits.{bitAnd, bitOr, bitXor}
 use lib.IntN.{ℤ, pos, negsuc, negℤ, _+ℤ_, _-ℤ_, _*ℤ_}
@@ -11,9 +11,11 @@ use lib.Ieee as Ieee
 use lib.Ieee.{Float, binary64}
 use mir.Syntax.{Width, w32, w64}
 use mir.Val.{bits, hbits, toZ, ofZ}
-use Rattle.model.specs.Answer.{Answer, bad, ok, _>>=_, guard, pick, onlyIf, mapOption}
+use Rattle.model.specs.Answer.{Answer, ok, _>>=_, _>>_, guard, onlyIf, mapOption}
 use Rattle.model.specs.Tables.{Ty, int32, int64, F, null, class, eqTy, descends}
-use Rattle.model.specs.Code.{Number, add, sub, mul, div, Whole, rem, div-un, rem-un, and, or, xor, add-ovf, mul-ovf, sub-ovf, Shift, shl, shr, shr-un, Relation, eq, ne, lt, le, gt, ge, lt-un, le-un, gt-un, ge-un, Binary, number, whole, shift, compare, Unary, neg, not-bits, conv-i4, conv-i8, conv-r8}
+use Rattle.model.specs.Code.{Number, add, sub, mul, div, Whole, rem, div-un, rem-un, and, or, xor, add-ovf, mul-ovf, sub-ovf, Shift, shl, shr, shr-un}
+use Rattle.model.specs.Code.{Relation, eq, ne, lt, le, gt, ge, lt-un, le-un, gt-un, ge-un, Binary, number, whole, shift, compare, Unary, neg, not-bits}
+use Rattle.model.specs.Code.{conv-i4, conv-i8, conv-r8}
 
 -- ---- Fitting
 
@@ -75,14 +77,14 @@ holds w z = ltb (mag z) (2 ^ hbits w)
 
 -- an integer divisor of 0 is 31; the smallest value by -1 is 32 for both div and rem
 unfoldable pub divided : Width → (ℤ → ℤ → ℤ) → ℕ → ℕ → Answer ℕ ℕ
-divided w f a b =
-    guard (not (eqb b 0)) 31 >>= λ _.
-    guard (holds w (quotZ (toZ w a) (toZ w b))) 32 >>= λ _.
-    ok (ofZ w (f (toZ w a) (toZ w b)))
+divided w f a b = do
+  guard (not (eqb b 0)) 31
+  guard (holds w (quotZ (toZ w a) (toZ w b))) 32
+  ok (ofZ w (f (toZ w a) (toZ w b)))
 
 -- an .ovf form ends 33 where the signed result doesn't fit
 unfoldable pub checked : Width → (ℤ → ℤ → ℤ) → ℕ → ℕ → Answer ℕ ℕ
-checked w f a b = guard (holds w (f (toZ w a) (toZ w b))) 33 >>= λ _. ok (ofZ w (f (toZ w a) (toZ w b)))
+checked w f a b = do guard (holds w (f (toZ w a) (toZ w b))) 33; ok (ofZ w (f (toZ w a) (toZ w b)))
 
 -- add, sub and mul wrap; div goes toward zero
 unfoldable pub integer : Width → Number → ℕ → ℕ → Answer ℕ ℕ
@@ -94,8 +96,8 @@ integer w div a b = divided w quotZ a b
 -- rem has the sign of the dividend
 unfoldable pub wholeOf : Width → Whole → ℕ → ℕ → Answer ℕ ℕ
 wholeOf w rem a b = divided w remZ a b
-wholeOf w div-un a b = guard (not (eqb b 0)) 31 >>= λ _. ok (a / b)
-wholeOf w rem-un a b = guard (not (eqb b 0)) 31 >>= λ _. ok (a % b)
+wholeOf w div-un a b = do guard (not (eqb b 0)) 31; ok (a / b)
+wholeOf w rem-un a b = do guard (not (eqb b 0)) 31; ok (a % b)
 wholeOf w and a b = ok (bitAnd a b)
 wholeOf w or a b = ok (bitOr a b)
 wholeOf w xor a b = ok (bitXor a b)

@@ -1,18 +1,18 @@
 -- The run: admission of arguments and budget, the beginning, steps within the budget, and the answer with the whole state.
-use Prim.Native.Nat.{ℕ, zero, suc, _+_, _-_}
+use Prim.Native.Nat.{ℕ, zero, suc, _-_}
 use mathlib.Core.Bool.{Bool, true, false}
 use mathlib.Core.Option.{Option, none, some}
-use mathlib.Core.List.{List, [], _∷_, _++_, map}
+use mathlib.Core.List.{List, [], _∷_, map}
 use lib.ListN.{length, set, replicate}
 use lib.Dec.{leb}
 use mir.Syntax.{w32, w64}
 use mir.Val.{toZ, ofZ}
-use Rattle.model.specs.Answer.{Answer, bad, ok, _>>=_, guard, need, onlyIf, mapOption, those}
-use Rattle.model.specs.Tables.{mostObjects, mostBudget, Ty, int32, int64, F, null, class, Method, Module, methodAt, fieldTypes, isStaticField, initialiserOf}
+use Rattle.model.specs.Answer.{Answer, bad, ok, _>>=_, _>>_, guard, need, onlyIf, mapOption, those}
+use Rattle.model.specs.Tables.{mostObjects, mostBudget, Ty, int32, int64, F, null, class, Module, methodAt, fieldTypes, isStaticField, initialiserOf}
 use Rattle.model.specs.Loading.{Refusal, refusal, load}
 use Rattle.model.specs.Operators.{holds}
 use Rattle.model.specs.Code.{andThen}
-use Rattle.model.specs.State.{Value, vint32, vint64, zeroOf, Heap, places, Frame, State, Machine, stateOf, framesGone, enter}
+use Rattle.model.specs.State.{Value, vint32, vint64, zeroOf, places, Frame, State, Machine, stateOf, framesGone, enter}
 use Rattle.model.specs.Step.{Outcome, goes, ends, Allocator, lowestFree, step}
 
 -- ---- Admission
@@ -95,11 +95,11 @@ steps new M (suc budget) n s = after (steps new M budget) n s (step new M s)
 
 -- 21 before 22, both after loading, at place 0
 unfoldable pub runModule : Module → List ℕ → ℕ → Answer Refusal Ended
-runModule M args budget =
-    need (admit (methodAt (M .methods) (M .entry) .params) args) (refusal 0 21) >>= λ vs.
-    guard (leb budget mostBudget) (refusal 0 22) >>= λ _.
-    ok (steps lowestFree M budget 0 (first M vs))
+runModule M args budget = do
+  vs ← need (admit (methodAt (M .methods) (M .entry) .params) args) (refusal 21 0)
+  guard (leb budget mostBudget) (refusal 22 0)
+  ok (steps lowestFree M budget 0 (first M vs))
 
 -- running loads first and passes a refusal on; it doesn't check
 unfoldable pub run : List ℕ → List ℕ → List ℕ → ℕ → Answer Refusal Ended
-run tables code args budget = load tables code >>= λ M. runModule M args budget
+run tables code args budget = do M ← load tables code; runModule M args budget

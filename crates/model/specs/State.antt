@@ -1,12 +1,12 @@
 -- The machine state: values, objects, frames; and what is read off them.
-use Prim.Native.Nat.{ℕ, zero, suc, _+_, _-_}
-use mathlib.Core.Bool.{Bool, true, false, not, _&&_}
+use Prim.Native.Nat.{ℕ, zero, suc, _+_}
+use mathlib.Core.Bool.{Bool, true, false, _&&_}
 use mathlib.Core.Option.{Option, none, some}
-use mathlib.Core.List.{List, [], _∷_, _++_, map}
+use mathlib.Core.List.{List, [], _∷_, map}
 use lib.ListN.{length, getD, set, drop, replicate}
-use lib.Dec.{leb, ltb, eqb}
-use Rattle.model.specs.Answer.{Answer, bad, ok, _>>=_, guard, need, pick, onlyIf, orElse, mapOption, those}
-use Rattle.model.specs.Tables.{mostObjects, Ty, int32, int64, F, null, class, Field, Method, Module, layout, fieldTypes, isStaticField}
+use lib.Dec.{leb}
+use Rattle.model.specs.Answer.{Answer, bad, ok, _>>=_, _>>_, guard, orElse}
+use Rattle.model.specs.Tables.{Ty, int32, int64, F, null, class, Method, Module, layout, fieldTypes}
 use Rattle.model.specs.Operators.{fits, kind, Kind}
 
 -- ---- Values
@@ -108,42 +108,51 @@ fitAll fit [] vs = true
 fitAll fit (t ∷ ts) [] = false
 fitAll fit (t ∷ ts) (v ∷ vs) = fit v t && fitAll fit ts vs
 
--- The check's 11 to 15 and the machine's 41 to 45 mean the same: `from` is 10 or 40.
-unfoldable pub undecodable : ℕ → ℕ
-undecodable from = from + 1
+-- what the check numbers 11 to 15 and the machine 41 to 45
+pub data Reason : Type 0 where
+  undecodable operandFault tooFew tooMany wrongType : Reason
 
-unfoldable pub operandFault : ℕ → ℕ
-operandFault from = from + 2
+abbrev pub checkNumber : Reason → ℕ
+checkNumber undecodable = 11
+checkNumber operandFault = 12
+checkNumber tooFew = 13
+checkNumber tooMany = 14
+checkNumber wrongType = 15
 
-unfoldable pub tooFew : ℕ → ℕ
-tooFew from = from + 3
-
-unfoldable pub tooMany : ℕ → ℕ
-tooMany from = from + 4
-
-unfoldable pub wrongType : ℕ → ℕ
-wrongType from = from + 5
+abbrev pub stuckNumber : Reason → ℕ
+stuckNumber undecodable = 41
+stuckNumber operandFault = 42
+stuckNumber tooFew = 43
+stuckNumber tooMany = 44
+stuckNumber wrongType = 45
 
 -- values that fit these types, the last on top: first their number is tested, then each type
-unfoldable pub pops : {A : Type 0} → ℕ → (A → Ty → Bool) → List Ty → List A → Answer ℕ (Popped A)
-pops from fit ts s =
-    guard (leb (length ts) (length s)) (tooFew from) >>= λ _.
-    guard (fitAll fit ts (firsts (length ts) s [])) (wrongType from) >>= λ _.
-    ok (record { got = firsts (length ts) s []; rest = drop (length ts) s })
+unfoldable pub pops : {A : Type 0} → (Reason → ℕ) → (A → Ty → Bool) → List Ty → List A → Answer ℕ (Popped A)
+pops number fit ts s = do
+  guard (leb (length ts) (length s)) (number tooFew)
+  guard (fitAll fit ts (firsts (length ts) s [])) (number wrongType)
+  ok (record { got = firsts (length ts) s []; rest = drop (length ts) s })
 
 -- any value, and any two: the second of them is on top
-unfoldable pub pop1 : {A : Type 0} → ℕ → List A → Answer ℕ ((a : A) × List A)
-pop1 from [] = bad (tooFew from)
-pop1 from (a ∷ s) = ok (a, s)
+unfoldable pub pop1 : {A : Type 0} → (Reason → ℕ) → List A → Answer ℕ ((a : A) × List A)
+pop1 number [] = bad (number tooFew)
+pop1 number (a ∷ s) = ok (a, s)
 
-unfoldable pub pop2 : {A : Type 0} → ℕ → List A → Answer ℕ ((a : A) × (b : A) × List A)
-pop2 from [] = bad (tooFew from)
-pop2 from (b ∷ []) = bad (tooFew from)
-pop2 from (b ∷ a ∷ s) = ok (a, b, s)
+unfoldable pub pop2 : {A : Type 0} → (Reason → ℕ) → List A → Answer ℕ ((a : A) × (b : A) × List A)
+pop2 number [] = bad (number tooFew)
+pop2 number (b ∷ []) = bad (number tooFew)
+pop2 number (b ∷ a ∷ s) = ok (a, b, s)
 
 -- n values more must not pass the method's max stack
-unfoldable pub room : {A : Type 0} → ℕ → Method → ℕ → List A → Answer ℕ (Unit {0})
-room from m n s = guard (leb (length s + n) (m .maxStack)) (tooMany from)
+unfoldable pub room : {A : Type 0} → (Reason → ℕ) → Method → ℕ → List A → Answer ℕ (Unit {0})
+room number m n s = guard (leb (length s + n) (m .maxStack)) (number tooMany)
+
+-- a call pops its arguments, and room for n values to come is tested at the call
+abbrev pub calling : {A B : Type 0} → (Reason → ℕ) → (A → Ty → Bool) → Method → List Ty → ℕ → List A → (Popped A → Answer ℕ B) → Answer ℕ B
+calling number fit m ts n s then = do
+  p ← pops number fit ts s
+  room number m n (p .rest)
+  then p
 
 -- ---- Frames and the whole state
 

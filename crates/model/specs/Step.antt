@@ -1,15 +1,18 @@
 -- A step: its tests in the written order, and what it does.
 use Prim.Native.Nat.{ℕ, zero, suc, _+_, _-_}
-use mathlib.Core.Bool.{Bool, true, false, not, _&&_, _||_}
+use mathlib.Core.Bool.{Bool, true, not}
 use mathlib.Core.Option.{Option, none, some}
-use mathlib.Core.List.{List, [], _∷_, _++_, map}
+use mathlib.Core.List.{List, [], _∷_, _++_}
 use lib.ListN.{length, getD, set}
-use lib.Dec.{leb, ltb, eqb}
-use Rattle.model.specs.Answer.{Answer, bad, ok, _>>=_, guard, need, pick, orElse, orNext, isNil, at}
-use Rattle.model.specs.Tables.{mostFrames, mostObjects, Ty, int32, int64, F, null, class, Sort, virtual, initialiser, isSort, Field, Method, Module, methodAt, arguments, due, parentOf, slot, root, ofRoot, initialiserOf}
-use Rattle.model.specs.Code.{Plain, nop, pop, dup, ret, ldc, binary, unary, Binary, Unary, Relation, Jump, always, iftrue, iffalse, when, Decoded, decode, Act, operands}
-use Rattle.model.specs.Operators.{fits, kind, same, reference, binaryOf, unaryOf, comparison, testable}
-use Rattle.model.specs.State.{Value, vint32, vint64, vF, vnull, vobject, value, zeroOf, bitsIn, Object, Heap, get, store, free, objectAt, newObject, typeOf, fitsValue, kindOf, undecodable, operandFault, tooFew, wrongType, Popped, pops, pop1, pop2, room, Frame, Machine, enter}
+use lib.Dec.{ltb, eqb}
+use Rattle.model.specs.Answer.{Answer, bad, ok, _>>=_, _>>_, guard, need, pick, orElse, orNext, isNil, at}
+use Rattle.model.specs.Tables.{mostFrames, Ty, class, virtual, initialiser, isSort, Field, Method, Module, methodAt, arguments, due, parentOf, slot}
+use Rattle.model.specs.Tables.{root, ofRoot, initialiserOf}
+use Rattle.model.specs.Code.{Plain, nop, pop, dup, ret, ldc, binary, unary, Binary, Unary, Relation, Jump, always, iftrue, iffalse, when, decode, Act}
+use Rattle.model.specs.Code.{operands}
+use Rattle.model.specs.Operators.{same, reference, binaryOf, unaryOf, comparison, testable}
+use Rattle.model.specs.State.{Value, vnull, vobject, value, zeroOf, bitsIn, Object, Heap, store, free, objectAt, newObject, fitsValue, kindOf}
+use Rattle.model.specs.State.{undecodable, operandFault, wrongType, stuckNumber, pops, pop1, pop2, room, calling, Frame, Machine, enter}
 
 -- a step goes on, or the run is finished with the value
 pub data Outcome : Type 0 where
@@ -53,9 +56,9 @@ moveWith s statics marks h o k = ok (goes (record { top = moved (s .top) o k; be
 
 -- a call pushes a frame, and the caller waits at the call's offset with the stack k; 36 where 32 are live
 unfoldable pub push : Machine → List Bool → Heap → List Value → Frame → Answer ℕ Outcome
-push s marks h k f =
-    guard (ltb (suc (length (s .below))) mostFrames) 36 >>= λ _.
-    ok (goes (record { top = f; below = moved (s .top) (s .top .offset) k ∷ s .below; statics = s .statics; marks = marks; heap = h }))
+push s marks h k f = do
+  guard (ltb (suc (length (s .below))) mostFrames) 36
+  ok (goes (record { top = f; below = moved (s .top) (s .top .offset) k ∷ s .below; statics = s .statics; marks = marks; heap = h }))
 
 -- ---- The start of a class
 
@@ -87,29 +90,29 @@ starting M s (some c) then = pick (isMarked s c) (then (s .marks)) (startBy M s 
 
 -- the bits of the operands' value, or 31 to 33
 unfoldable pub doBinary : Machine → Binary → ℕ → Answer ℕ Outcome
-doBinary s o next =
-    pop2 40 (s .top .stack) >>= λ p.
-    need (binaryOf o (kindOf (s .heap) (p .0)) (kindOf (s .heap) (p .1))) (wrongType 40) >>= λ g.
-    g .bitsOf (bitsIn (p .0)) (bitsIn (p .1)) >>= λ n.
-    move s next (value (g .gives) n ∷ p .2)
+doBinary s o next = do
+  p ← pop2 stuckNumber (s .top .stack)
+  g ← need (binaryOf o (kindOf (s .heap) (p .0)) (kindOf (s .heap) (p .1))) (stuckNumber wrongType)
+  n ← g .bitsOf (bitsIn (p .0)) (bitsIn (p .1))
+  move s next (value (g .gives) n ∷ p .2)
 
 unfoldable pub doUnary : Machine → Unary → ℕ → Answer ℕ Outcome
-doUnary s o next =
-    pop1 40 (s .top .stack) >>= λ p.
-    need (unaryOf o (kindOf (s .heap) (p .0))) (wrongType 40) >>= λ g.
-    move s next (value (g .gives) (g .bitsOf (bitsIn (p .0))) ∷ p .1)
+doUnary s o next = do
+  p ← pop1 stuckNumber (s .top .stack)
+  g ← need (unaryOf o (kindOf (s .heap) (p .0))) (stuckNumber wrongType)
+  move s next (value (g .gives) (g .bitsOf (bitsIn (p .0))) ∷ p .1)
 
 unfoldable pub doTest : Machine → ℕ → ℕ → Answer ℕ Outcome
-doTest s onZero onOther =
-    pop1 40 (s .top .stack) >>= λ p.
-    guard (testable (kindOf (s .heap) (p .0))) (wrongType 40) >>= λ _.
-    move s (pick (eqb (bitsIn (p .0)) 0) onZero onOther) (p .1)
+doTest s onZero onOther = do
+  p ← pop1 stuckNumber (s .top .stack)
+  guard (testable (kindOf (s .heap) (p .0))) (stuckNumber wrongType)
+  move s (pick (eqb (bitsIn (p .0)) 0) onZero onOther) (p .1)
 
 unfoldable pub doWhen : Machine → Relation → ℕ → ℕ → Answer ℕ Outcome
-doWhen s r target next =
-    pop2 40 (s .top .stack) >>= λ p.
-    need (comparison r (kindOf (s .heap) (p .0)) (kindOf (s .heap) (p .1))) (wrongType 40) >>= λ holds.
-    move s (pick (holds (bitsIn (p .0)) (bitsIn (p .1))) target next) (p .2)
+doWhen s r target next = do
+  p ← pop2 stuckNumber (s .top .stack)
+  holds ← need (comparison r (kindOf (s .heap) (p .0)) (kindOf (s .heap) (p .1))) (stuckNumber wrongType)
+  move s (pick (holds (bitsIn (p .0)) (bitsIn (p .1))) target next) (p .2)
 
 unfoldable pub doJump : Machine → Jump → ℕ → ℕ → Answer ℕ Outcome
 doJump s always target next = move s target (s .top .stack)
@@ -120,14 +123,14 @@ doJump s (when r) target next = doWhen s r target next
 -- ---- Loads and stores
 
 unfoldable pub doPush : Machine → Method → Value → ℕ → Answer ℕ Outcome
-doPush s m v next = room 40 m 1 (s .top .stack) >>= λ _. move s next (v ∷ s .top .stack)
+doPush s m v next = do room stuckNumber m 1 (s .top .stack); move s next (v ∷ s .top .stack)
 
 unfoldable pub doDup : Machine → Method → ℕ → Answer ℕ Outcome
-doDup s m next = pop1 40 (s .top .stack) >>= λ p. doPush s m (p .0) next
+doDup s m next = do p ← pop1 stuckNumber (s .top .stack); doPush s m (p .0) next
 
 -- the value of a type on top of the stack, handed on with the stack below it
 unfoldable pub popping : Module → Machine → Ty → (Value → List Value → Answer ℕ Outcome) → Answer ℕ Outcome
-popping M s t then = pops 40 (fitsValue M (s .heap)) (t ∷ []) (s .top .stack) >>= λ p. then (getD (p .got) 0 vnull) (p .rest)
+popping M s t then = do p ← pops stuckNumber (fitsValue M (s .heap)) (t ∷ []) (s .top .stack); then (getD (p .got) 0 vnull) (p .rest)
 
 unfoldable pub doStarg : Module → Machine → ℕ → Ty → ℕ → Answer ℕ Outcome
 doStarg M s i t next =
@@ -151,36 +154,32 @@ chooseUp M q (suc n) (suc c) = orNext (ofRoot (M .methods) (suc c) q) (chooseUp 
 unfoldable pub choose : Module → ℕ → Method → ℕ → ℕ
 choose M r m c = pick (isSort (m .sort) virtual) (orElse (chooseUp M (root (M .methods) r) c c) r) r
 
--- `call` makes no null test. Room for the value to come is tested at the call.
+-- `call` makes no null test
 unfoldable pub doCall : Module → Machine → Method → ℕ → Method → Answer ℕ Outcome
 doCall M s m r callee =
-    pops 40 (fitsValue M (s .heap)) (arguments callee) (s .top .stack) >>= λ p.
-    room 40 m (length (due callee)) (p .rest) >>= λ _.
+    calling stuckNumber (fitsValue M (s .heap)) m (arguments callee) (length (due callee)) (s .top .stack) λ p.
     starting M s (startedByCall callee) λ marks.
     push s marks (s .heap) (p .rest) (enter r callee (p .got))
 
 -- the null test: an object's number
 unfoldable pub notNull : Value → Answer ℕ ℕ
-notNull v = guard (not (eqb (bitsIn v) 0)) 34 >>= λ _. ok (bitsIn v)
+notNull v = do guard (not (eqb (bitsIn v) 0)) 34; ok (bitsIn v)
 
 -- callvirt makes its null test before the start
 unfoldable pub doCallvirt : Module → Machine → Method → ℕ → Method → Answer ℕ Outcome
-doCallvirt M s m r named =
-    pops 40 (fitsValue M (s .heap)) (arguments named) (s .top .stack) >>= λ p.
-    room 40 m (length (due named)) (p .rest) >>= λ _.
-    notNull (getD (p .got) 0 vnull) >>= λ n.
-    let taken = choose M r named (objectAt (s .heap) n .class) in
-    starting M s (startedByCall (methodAt (M .methods) taken)) λ marks.
-    push s marks (s .heap) (p .rest) (enter taken (methodAt (M .methods) taken) (p .got))
+doCallvirt M s m r named = calling stuckNumber (fitsValue M (s .heap)) m (arguments named) (length (due named)) (s .top .stack) λ p. do
+  n ← notNull (getD (p .got) 0 vnull)
+  let taken = choose M r named (objectAt (s .heap) n .class)
+  starting M s (startedByCall (methodAt (M .methods) taken)) λ marks.
+      push s marks (s .heap) (p .rest) (enter taken (methodAt (M .methods) taken) (p .got))
 
 -- newobj pops the values of the parameters, pushes the new reference and calls the constructor with it as `this`
 unfoldable pub doNewobj : Allocator → Module → Machine → Method → ℕ → Method → Answer ℕ Outcome
 doNewobj new M s m r callee =
-    pops 40 (fitsValue M (s .heap)) (callee .params) (s .top .stack) >>= λ p.
-    room 40 m 1 (p .rest) >>= λ _.
-    starting M s (startedByCall callee) λ marks.
-    need (new s (newObject M (callee .owner))) 37 >>= λ o.
-    push s marks (o .heap) (vobject (o .number) ∷ p .rest) (enter r callee (vobject (o .number) ∷ p .got))
+    calling stuckNumber (fitsValue M (s .heap)) m (callee .params) 1 (s .top .stack) λ p.
+    starting M s (startedByCall callee) λ marks. do
+      o ← need (new s (newObject M (callee .owner))) 37
+      push s marks (o .heap) (vobject (o .number) ∷ p .rest) (enter r callee (vobject (o .number) ∷ p .got))
 
 -- At `ret` the caller gets the return value, if any, and moves past the call, whose instruction is 5 bytes long;
 -- after an initialiser it stays and tries its instruction again.
@@ -193,20 +192,20 @@ return s m vs (f ∷ fs) = ok (goes (record { top = resumed m f vs; below = fs; 
 
 -- `ret` wants exactly the return value on the stack, or nothing for void
 unfoldable pub doRet : Module → Machine → Method → Answer ℕ Outcome
-doRet M s m =
-    pops 40 (fitsValue M (s .heap)) (due m) (s .top .stack) >>= λ p.
-    guard (isNil (p .rest)) (wrongType 40) >>= λ _.
-    return s m (p .got) (s .below)
+doRet M s m = do
+  p ← pops stuckNumber (fitsValue M (s .heap)) (due m) (s .top .stack)
+  guard (isNil (p .rest)) (stuckNumber wrongType)
+  return s m (p .got) (s .below)
 
 -- ---- Casts
 
 -- isinst gives null on a miss and on null; castclass lets null and a fitting object through and ends 35 on a miss
 unfoldable pub doCast : Module → Machine → ℕ → Answer ℕ Value → ℕ → Answer ℕ Outcome
-doCast M s c miss next =
-    pop1 40 (s .top .stack) >>= λ p.
-    guard (same (kindOf (s .heap) (p .0)) reference) (wrongType 40) >>= λ _.
-    pick (fitsValue M (s .heap) (p .0) (class c)) (ok (p .0)) miss >>= λ v.
-    move s next (v ∷ p .1)
+doCast M s c miss next = do
+  p ← pop1 stuckNumber (s .top .stack)
+  guard (same (kindOf (s .heap) (p .0)) reference) (stuckNumber wrongType)
+  v ← pick (fitsValue M (s .heap) (p .0) (class c)) (ok (p .0)) miss
+  move s next (v ∷ p .1)
 
 -- ---- Fields
 
@@ -214,27 +213,27 @@ unfoldable pub slotIn : Module → ℕ → Field → ℕ
 slotIn M r d = slot (M .parents) (M .fields) r d
 
 unfoldable pub doLdfld : Module → Machine → ℕ → Field → ℕ → Answer ℕ Outcome
-doLdfld M s r d next =
-    pops 40 (fitsValue M (s .heap)) (class (d .owner) ∷ []) (s .top .stack) >>= λ p.
-    starting M s (startedByField d) λ marks.
-    notNull (getD (p .got) 0 vnull) >>= λ n.
+doLdfld M s r d next = do
+  p ← pops stuckNumber (fitsValue M (s .heap)) (class (d .owner) ∷ []) (s .top .stack)
+  starting M s (startedByField d) λ marks. do
+    n ← notNull (getD (p .got) 0 vnull)
     moveWith s (s .statics) marks (s .heap) next (getD (objectAt (s .heap) n .cells) (slotIn M r d) (zeroOf (d .type)) ∷ p .rest)
 
 unfoldable pub withCell : Object → ℕ → Value → Object
 withCell o i v = record { class = o .class; cells = set (o .cells) i v }
 
 unfoldable pub doStfld : Module → Machine → ℕ → Field → ℕ → Answer ℕ Outcome
-doStfld M s r d next =
-    pops 40 (fitsValue M (s .heap)) (class (d .owner) ∷ d .type ∷ []) (s .top .stack) >>= λ p.
-    starting M s (startedByField d) λ marks.
-    notNull (getD (p .got) 0 vnull) >>= λ n.
+doStfld M s r d next = do
+  p ← pops stuckNumber (fitsValue M (s .heap)) (class (d .owner) ∷ d .type ∷ []) (s .top .stack)
+  starting M s (startedByField d) λ marks. do
+    n ← notNull (getD (p .got) 0 vnull)
     moveWith s (s .statics) marks (store (s .heap) n (withCell (objectAt (s .heap) n) (slotIn M r d) (getD (p .got) 1 vnull))) next (p .rest)
 
 unfoldable pub doLdsfld : Module → Machine → Method → ℕ → Field → ℕ → Answer ℕ Outcome
-doLdsfld M s m r d next =
-    room 40 m 1 (s .top .stack) >>= λ _.
-    starting M s (startedByField d) λ marks.
-    moveWith s (s .statics) marks (s .heap) next (getD (s .statics) (slotIn M r d) (zeroOf (d .type)) ∷ s .top .stack)
+doLdsfld M s m r d next = do
+  room stuckNumber m 1 (s .top .stack)
+  starting M s (startedByField d) λ marks.
+      moveWith s (s .statics) marks (s .heap) next (getD (s .statics) (slotIn M r d) (zeroOf (d .type)) ∷ s .top .stack)
 
 unfoldable pub doStsfld : Module → Machine → ℕ → Field → ℕ → Answer ℕ Outcome
 doStsfld M s r d next =
@@ -246,7 +245,7 @@ doStsfld M s r d next =
 
 unfoldable pub doPlain : Module → Machine → Method → Plain → ℕ → Answer ℕ Outcome
 doPlain M s m nop next = move s next (s .top .stack)
-doPlain M s m pop next = pop1 40 (s .top .stack) >>= λ p. move s next (p .1)
+doPlain M s m pop next = do p ← pop1 stuckNumber (s .top .stack); move s next (p .1)
 doPlain M s m dup next = doDup s m next
 doPlain M s m ret next = doRet M s m
 doPlain M s m (ldc t n) next = doPush s m (value t n) next
@@ -272,9 +271,9 @@ act new M s m (Act.stsfld r d) next = doStsfld M s r d next
 
 -- 46, 41, 42, then what the instruction tests, in the order 43, 45, 44, start of a class, 34, 37, 36, 31 to 33, 35
 unfoldable pub step : Allocator → Module → Machine → Answer ℕ Outcome
-step new M s =
-    let m = methodAt (M .methods) (s .top .method) in
-    guard (ltb (s .top .offset) (length (m .code))) 46 >>= λ _.
-    need (decode (m .code) (s .top .offset)) (undecodable 40) >>= λ d.
-    need (operands M m (d .ins)) (operandFault 40) >>= λ a.
-    act new M s m a (d .next)
+step new M s = do
+  let m = methodAt (M .methods) (s .top .method)
+  guard (ltb (s .top .offset) (length (m .code))) 46
+  d ← need (decode (m .code) (s .top .offset)) (stuckNumber undecodable)
+  a ← need (operands M m (d .ins)) (stuckNumber operandFault)
+  act new M s m a (d .next)

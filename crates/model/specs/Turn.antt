@@ -1,16 +1,15 @@
 -- The program `turn`: what it prints for a whole input.
-use Prim.Native.Nat.{ℕ, zero, suc, _+_, _-_, _*_, _/_, _%_, _^_}
-use mathlib.Core.Bool.{Bool, true, false}
+use Prim.Native.Nat.{ℕ, zero, suc, _+_, _/_, _%_}
 use mathlib.Core.Option.{Option, none, some}
 use mathlib.Core.List.{List, [], _∷_, _++_}
-use lib.ListN.{length, take, drop, getD}
-use lib.Dec.{leb, ltb, eqb}
+use lib.ListN.{length, take, drop}
+use lib.Dec.{leb, ltb}
 use lib.IntN.{ℤ, pos, negsuc}
 use mir.Syntax.{w32, w64}
 use mir.Val.{toZ}
-use Rattle.model.specs.Answer.{Answer, bad, ok, _>>=_, guard, blame, pick}
-use Rattle.model.specs.Tables.{mostTables, mostCode, Module}
-use Rattle.model.specs.Loading.{Refusal, refusal, little, load}
+use Rattle.model.specs.Answer.{Answer, bad, ok, _>>=_, _>>_, guard, blame, pick}
+use Rattle.model.specs.Tables.{mostTables, mostCode}
+use Rattle.model.specs.Loading.{refusal, little, load}
 use Rattle.model.specs.State.{Value, vint32, vint64, vF, vnull, vobject}
 use Rattle.model.specs.Run.{Ended, runModule}
 use Rattle.model.specs.Check.{Fault, faultIn, checkModule}
@@ -75,7 +74,8 @@ space = 32 ∷ []
 -- one line, ended by a line feed
 unfoldable pub print : Line → List ℕ
 print l =
-    decimal (l .ending) ++ (space ++ (decimal (l .method) ++ (space ++ (decimal (l .offset) ++ (space ++ (decimal (l .steps) ++ (space ++ (textOf (l .value) ++ (10 ∷ [])))))))))
+    decimal (l .ending) ++ (space ++ (decimal (l .method) ++ (space ++ (decimal (l .offset) ++ (space ++ (decimal (l .steps)
+    ++ (space ++ (textOf (l .value) ++ (10 ∷ [])))))))))
 
 -- ---- A whole input: two bytes of table length, tables, code
 
@@ -84,19 +84,19 @@ turnBudget = 100000
 
 -- loads, checks, runs without arguments
 unfoldable pub play : List ℕ → List ℕ → Answer Fault Ended
-play tables code =
-    blame (faultIn 0) (load tables code) >>= λ M.
-    checkModule M >>= λ _.
-    blame (faultIn 0) (runModule M [] turnBudget)
+play tables code = do
+  M ← blame (faultIn 0) (load tables code)
+  checkModule M
+  blame (faultIn 0) (runModule M [] turnBudget)
 
 -- 9 under two bytes, 1 for an announced length above 8,192, 9 for input shorter than announced, 1 for more than 32,768 code bytes
 unfoldable pub answer : List ℕ → Answer Fault Ended
-answer input =
-    guard (leb 2 (length input)) (faultIn 0 (refusal 0 9)) >>= λ _.
-    guard (leb (little 2 input) mostTables) (faultIn 0 (refusal 0 1)) >>= λ _.
-    guard (leb (2 + little 2 input) (length input)) (faultIn 0 (refusal 0 9)) >>= λ _.
-    guard (leb (length (drop (2 + little 2 input) input)) mostCode) (faultIn 0 (refusal 0 1)) >>= λ _.
-    play (take (little 2 input) (drop 2 input)) (drop (2 + little 2 input) input)
+answer input = do
+  guard (leb 2 (length input)) (faultIn 0 (refusal 9 0))
+  guard (leb (little 2 input) mostTables) (faultIn 0 (refusal 1 0))
+  guard (leb (2 + little 2 input) (length input)) (faultIn 0 (refusal 9 0))
+  guard (leb (length (drop (2 + little 2 input) input)) mostCode) (faultIn 0 (refusal 1 0))
+  play (take (little 2 input) (drop 2 input)) (drop (2 + little 2 input) input)
 
 unfoldable pub turn : List ℕ → List ℕ
 turn input = print (lineOf (answer input))

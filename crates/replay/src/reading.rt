@@ -1,108 +1,39 @@
-// A case from standard input: tables and code, each after its length in two bytes, a byte with the number of arguments, eight bytes for each, four
-// bytes of budget. A function answers false where the input ends before its part does: then nothing is printed.
-use crate::saying::answer;
-use code::little::little2;
-use code::little::little4;
-use code::little::little8;
+// A case from standard input.
+use case_line::announced;
 use code::part::part;
 use libc::STDIN_FILENO;
+ghost use mathlib.Core.Path.{_≡_};
+ghost use mathlib.Core.Bool.{true};
+ghost use mathlib.Core.Logic.{_⊎_};
+ghost use Prim.Native.Nat.{_≤_};
+ghost use lib.ListN.{length, take};
+ghost use Rattle.case_line.specs.Case.{Whole};
 
-// Reads n bytes, if there are so many, to the start of buf.
-fn fill(buf: &mut [u8], n: usize) -> bool {
-    let start: usize = 0;
-    if n <= buf.len() {
-        return io::read_full(STDIN_FILENO, &mut buf[start..n]) == n;
-    }
-    false
-}
-
-// A part of the case and how long it is.
-fn length() -> usize {
-    let mut bytes = [0u8; 2];
-    if io::read_full(STDIN_FILENO, &mut bytes) < 2 {
-        return 65536;
-    }
-    little2(&bytes) as usize
-}
-
-// The budget comes last.
-fn with_arguments(tables: &[u8], code: &[u8], arguments: &[u64]) -> bool {
-    let mut bytes = [0u8; 4];
-    if io::read_full(STDIN_FILENO, &mut bytes) < 4 {
+// Reads the bytes of a case from one place to another; false where the input ends before, or where the buffer does.
+fn more(case: &mut [u8], from: usize, to: usize) -> bool
+    ensures { λ r. ⌜ (r ≡ true → (from ≤ to) × (to ≤ length (now (case .exit)))) ⌝ }
+{
+    if case.len() < to {
         return false;
     }
-    answer(tables, code, arguments, little4(&bytes))
-}
-
-// The number i of eight bytes each.
-fn number_at(bytes: &[u8], i: usize) -> u64 {
-    if i < 256 {
-        return little8(part(bytes, i * 8, 8));
-    }
-    0
-}
-
-// Numbers of eight bytes each, as far as `words` goes.
-fn numbers(words: &mut [u64], bytes: &[u8]) {
-    let mut i: usize = 0;
-    while i < words.len() {
-        words[i] = number_at(bytes, i);
-        i += 1;
-    }
-}
-
-fn first(words: &[u64], n: usize) -> &[u64] {
-    let start: usize = 0;
-    if n <= words.len() {
-        return &words[start..n];
-    }
-    words
-}
-
-fn with_count(tables: &[u8], code: &[u8], count: u8) -> bool {
-    let n = count as usize;
-    let mut space = [0u8; 2048];
-    let bytes: &mut [u8] = &mut space;
-    if !fill(bytes, n * 8) {
+    if to < from {
         return false;
     }
-    let mut cells = [0u64; 256];
-    let words: &mut [u64] = &mut cells;
-    numbers(words, bytes);
-    with_arguments(tables, code, first(words, n))
+    io::read_full(STDIN_FILENO, &mut case[from..to]) == to - from
 }
 
-fn with_code(tables: &[u8], code: &[u8]) -> bool {
-    let mut byte = [0u8; 1];
-    if io::read_full(STDIN_FILENO, &mut byte) < 1 {
-        return false;
+// Reads a case to the start of the buffer, and gives how long it is, 0 where it is cut off. What is there announces what follows, until it is a case.
+pub fn read(case: &mut [u8]) -> usize
+    ensures { λ r. ⌜ (r ≡ 0) ⊎ Whole (take r (now (case .exit))) ⌝ }
+{
+    let mut have = 0;
+    let mut all = announced(part(case, 0, have));
+    while have != all {
+        if !more(case, have, all) {
+            return 0;
+        }
+        have = all;
+        all = announced(part(case, 0, have));
     }
-    with_count(tables, code, byte[0])
-}
-
-fn with_tables(tables: &[u8]) -> bool {
-    let n = length();
-    let mut space = io::large_buffer();
-    let buf: &mut [u8] = &mut space;
-    if n > 65535 {
-        return false;
-    }
-    if !fill(buf, n) {
-        return false;
-    }
-    with_code(tables, part(buf, 0, n))
-}
-
-// One case, read and answered.
-pub fn case() -> bool {
-    let n = length();
-    let mut space = io::large_buffer();
-    let buf: &mut [u8] = &mut space;
-    if n > 65535 {
-        return false;
-    }
-    if !fill(buf, n) {
-        return false;
-    }
-    with_tables(part(buf, 0, n))
+    have
 }

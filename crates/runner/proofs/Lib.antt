@@ -1,1 +1,5 @@
+-- What is proved once and cited.
+pub mod Values
+pub mod Beginning
 pub mod Telling
+pub mod Answering

@@ -1,228 +1,136 @@
 // A loaded module run with arguments and a budget: admission, the loop over the steps, and the answer with the whole state.
-use cells::Cells;
-use cells::Derived;
-use cells::State;
-use derived::derived_from;
-use derived::fits_table;
-use machine::steps::Left;
-use machine::steps::steps;
-use ready::settle;
-use ready::settle_choices;
-use states::admission::admit;
-use states::beginning::first;
-use states::ending::tidy;
-use tables::Loaded;
-use text::line::Value;
-ghost use mathlib.Core.Path.{_≡_};
-ghost use mathlib.Core.Bool.{true};
-ghost use mathlib.Core.Option.{some};
-ghost use Prim.Native.Nat.{suc, _<_};
-ghost use Rattle.model.specs.Answer.{pick};
-ghost use Rattle.model.specs.Tables.{Module};
-ghost use Rattle.model.specs.Loading.{refusal};
-ghost use Rattle.model.specs.Run.{runModule};
-ghost use Rattle.tables.specs.Holds.{Holds};
-ghost use Rattle.cells.specs.Order.{Fine};
-ghost use Rattle.cells.specs.View.{valueBy};
-ghost use Rattle.cells.specs.Layout.{tidy, save};
-ghost use Rattle.plain.specs.Steps.{Few, Placed, Ok};
-ghost use Rattle.text.specs.Values.{valueOf};
-ghost use Rattle.machine.specs.Running.{Loads, Laid, endedBy};
-ghost use Rattle.runner.specs.Answers.{valueBack, TellsC, Plays, Refuses, Answers};
+mod playing; // the loop from the arguments laid, and what is told of its end
 
-// How a run ended: number, place, steps made, value and the whole state.
+use crate::playing::Summary;
+use crate::playing::played;
+use begin_end::admission::admit;
+use line::line::Value;
+use loaded::Counts;
+use loaded::Fault;
+use state::State;
+ghost use mathlib.Core.Path.{_≡_};
+ghost use Rattle.model.specs.Tables.{Module};
+ghost use Rattle.model.specs.Run.{runModule};
+ghost use Rattle.loaded.specs.Holds.{Holds};
+ghost use Rattle.state.specs.Order.{Fine};
+ghost use Rattle.between_steps.specs.Running.{lentLoaded};
+ghost use Rattle.runner.specs.Answers.{Loads, Answers, refusedBy};
+ghost use Rattle.runner.specs.Playing.{endedWith};
+
+// The refusals of a run: arguments that the entry does not take, and a budget that is too high.
+const ARGUMENTS: u8 = 21;
+
+const BUDGET: u8 = 22;
+
+const MOST_BUDGET: u64 = 1_000_000;
+
+// How a run ended: its ending with its place, steps made, value and the whole state. A refusal has number and place, and all else is 0.
 pub struct Ended {
-    pub ending: u8,
-    pub method: usize,
-    pub offset: usize,
+    pub end: Fault,
     pub steps: u64,
     pub value: Value,
     pub state: State,
 }
 
-// Where `refused` nothing was run: the ending is the refusal's number, 21 for arguments that the entry doesn't take, 22 for a budget above 1,000,000; the offset is its place, and all else is 0.
-pub struct Ran {
-    pub refused: bool,
-    pub ended: Ended,
-}
-
-// The value of a kind in 64 bits.
-fn value_of(kind: u8, bits: u64) -> Value
-    ensures { λ r. ⌜ valueOf r ≡ some (valueBy kind bits) ⌝ }
-{
-    match kind {
-        0 => {
-            if bits == 0 {
-                return Value::Null;
-            }
-            Value::Object(bits)
-        }
-        1 => Value::Int32(bits),
-        2 => Value::Int64(bits),
-        _ => Value::Real(bits),
-    }
-}
-
-// The value that the entry returns, if it has one: it stands in the first cell of its stack.
-fn value_due(over: bool, byte: u8, kind: u8, bits: u64) -> Value
-    ensures { λ r. ⌜ valueOf r ≡ valueBack over byte kind bits ⌝ }
-{
-    if !over {
-        return Value::None;
-    }
-    if byte == 0 {
-        return Value::None;
-    }
-    value_of(kind, bits)
-}
-
-// How many frames are live when the run is over.
-fn live_frames(over: bool, top: usize) -> usize
-    requires { ⌜ top < 32 ⌝ }
-    ensures { λ r. ⌜ r ≡ pick over 0 (suc top) ⌝ }
-{
-    if over {
-        return 0;
-    }
-    top + 1
-}
-
-// A run that is over ends with 0.
-fn ending_of(over: bool, ending: u8) -> u8
-    ensures { λ r. ⌜ r ≡ pick over 0 ending ⌝ }
-{
-    if over { 0 } else { ending }
-}
-
-// The state of the cells, the first `live` frames being handed back.
-fn state_of(m: Loaded, d: Derived, c: Cells, live: usize) -> State
-    requires { ⌜ Ok (c .regs) ⌝ ∗ ⌜ Few 128 (c .methods) ⌝ ∗ ⌜ Placed (c .classes) ⌝ }
-    ensures { λ r. ⌜ r ≡ tidy m d (save c) live ⌝ }
-{
-    let types = m.types;
-    let static_types = d.statics;
-    let cell_types = d.cells;
-    let kinds = c.kinds;
-    let bits = c.bits;
-    let args = c.args;
-    let locs = c.locs;
-    let ats = c.ats;
-    let depths = c.depths;
-    let methods = c.methods;
-    let statics = c.statics;
-    let marks = c.marks;
-    let classes = c.classes;
-    let heap = c.heap;
-    tidy(
-        c.regs,
-        live,
-        &types,
-        &static_types,
-        &cell_types,
-        &kinds,
-        &bits,
-        &args,
-        &locs,
-        &ats,
-        &depths,
-        &methods,
-        &statics,
-        &marks,
-        &classes,
-        &heap,
-    )
-}
-
-// The ending, with the running frame's place and the state.
-fn told(m: Loaded, d: Derived, r: Left) -> Ended
-    requires { ⌜ Ok (r .cells .regs) ⌝ ∗ ⌜ Few 128 (r .cells .methods) ⌝ ∗ ⌜ Placed (r .cells .classes) ⌝ }
-    ensures { λ e. ⌜ TellsC m d (endedBy m r) e ⌝ }
-{
-    let c = r.cells;
-    let g = c.regs;
-    let returns = m.returns;
-    let row = g.method;
-    let at = g.top * 32;
-    let kinds = c.kinds;
-    let bits = c.bits;
-    let value = value_due(r.over, returns[row], kinds[at], bits[at]);
-    let live = live_frames(r.over, g.top);
-    let state = state_of(m, d, c, live);
-    Ended {
-        ending: ending_of(r.over, r.ending),
-        method: g.method,
-        offset: g.at,
-        steps: r.steps,
-        value: value,
-        state: state,
-    }
-}
-
-// The loop from the entry's frame on, with its arguments laid in the cells.
-fn played(m: Loaded, code: &[u8], laid: [u64; 256], budget: u64) -> Ended
-    requires { ⌜ Loads (now code) m ⌝ ∗ ⌜ Laid m laid ⌝ }
-    ensures { λ r. ⌜ Plays m (now (code .entry)) laid budget r ⌝ }
-{
-    let l = settle(m);
-    let d = settle_choices(m, derived_from(m));
-    let parents = m.parents;
-    let owners = m.owners;
-    let initialisers = m.initialisers;
-    let table = fits_table(&parents, m.classes);
-    let c = first(m.entry, &owners, &initialisers, &laid);
-    let r = steps(l, d, table, c, code, budget);
-    told(l, d, r)
-}
-
 // Nothing is run: a refusal with its number and place.
-pub fn refused(number: u8, place: usize) -> Ran
-    ensures { λ r. ⌜ r .refused ≡ true ⌝ ∗ ⌜ Refuses (refusal place number) (r .ended) ⌝ }
+pub fn refused(number: u8, place: usize) -> Ended
+    ensures { λ r. ⌜ r ≡ refusedBy (record { number = number; place = place }) ⌝ }
 {
-    let state = State {
-        live: 0,
-        kinds: [0u8; 1024],
-        bits: [0u64; 1024],
-        args: [0u64; 256],
-        locs: [0u64; 512],
-        ats: [0usize; 32],
-        depths: [0usize; 32],
-        methods: [0usize; 32],
-        statics: [0u64; 64],
-        marks: [0u8; 33],
-        classes: [0u8; 256],
-        heap: [0u64; 2048],
-    };
-    let ended = Ended {
-        ending: number,
-        method: 0,
-        offset: place,
+    Ended {
+        end: Fault {
+            number: number,
+            method: 0,
+            offset: place,
+        },
         steps: 0,
         value: Value::None,
-        state: state,
-    };
-    Ran {
-        refused: true,
-        ended: ended,
+        state: State {
+            live: 0,
+            cells: [0u64; 2048],
+            kinds: [0u8; 2048],
+            statics: [0u64; 64],
+            marks: [0u8; 33],
+            classes: [0u8; 256],
+            heap: [0u64; 2048],
+        },
     }
 }
 
-// Arguments are admitted first, then the budget.
-pub fn run(m: Loaded, code: &[u8], given: &[u64], budget: u64) -> Ran
-    requires { ⌜ Loads (now code) m ⌝ }
-    ensures { λ r. ⌜ ((M : Module) → Fine M → Holds M (now (code .entry)) m → Answers (runModule M (now (given .entry)) budget) r) ⌝ }
+// What is told of a run, with its state out of the arrays.
+fn with_state(
+    s: Summary,
+    cells: &[u64; 2048],
+    kinds: &[u8; 2048],
+    marks: &[u8; 33],
+    classes: &[u8; 256],
+    heap: &[u64; 2048],
+    statics: &[u64; 64],
+) -> Ended
+    ensures { λ r. ⌜ r ≡ endedWith s (now (cells .entry)) (now (kinds .entry)) (now (marks .entry)) (now (classes .entry)) (now (heap .entry))
+        (now (statics .entry)) ⌝ }
 {
-    let types = m.types;
-    let arguments = m.arguments;
-    let mut laid = [0u64; 256];
-    if !admit(&types, &arguments, m.entry, given, &mut laid) {
-        return refused(21, 0);
+    let end = s.end;
+    let value = s.value;
+    Ended {
+        end: end,
+        steps: s.steps,
+        value: value,
+        state: State {
+            live: s.live,
+            cells: *cells,
+            kinds: *kinds,
+            statics: *statics,
+            marks: *marks,
+            classes: *classes,
+            heap: *heap,
+        },
     }
-    if 1000000 < budget {
-        return refused(22, 0);
+}
+
+// Arguments are admitted first, then the budget. The arrays of the state are made here, and lent to all that changes them.
+pub fn run(
+    counts: Counts,
+    parents: &[u8; 33],
+    initialisers: &[u8; 33],
+    fields: &[u8; 516],
+    methods: &[u8; 4128],
+    parts: &[usize; 258],
+    code: &[u8],
+    given: &[u64],
+    budget: u64,
+) -> Ended
+    requires { ⌜ Loads (now code) (lentLoaded counts (now parents) (now initialisers) (now fields) (now methods) (now parts)) ⌝ }
+    ensures { λ r. ⌜ ((M : Module) → Fine M →
+        Holds M (now (code .entry)) (lentLoaded counts (now (parents .entry)) (now (initialisers .entry)) (now (fields .entry)) (now (methods .entry))
+        (now (parts .entry))) → Answers (runModule M (now (given .entry)) budget) r) ⌝ }
+{
+    let mut cells = [0u64; 2048];
+    if !admit(counts.entry, methods, given, &mut cells) {
+        return refused(ARGUMENTS, 0);
     }
-    let ended = played(m, code, laid, budget);
-    Ran {
-        refused: false,
-        ended: ended,
+    if MOST_BUDGET < budget {
+        return refused(BUDGET, 0);
     }
+    let mut kinds = [0u8; 2048];
+    let mut marks = [0u8; 33];
+    let mut classes = [0u8; 256];
+    let mut heap = [0u64; 2048];
+    let mut statics = [0u64; 64];
+    let s = played(
+        &mut cells,
+        &mut kinds,
+        &mut marks,
+        &mut classes,
+        &mut heap,
+        &mut statics,
+        counts,
+        parents,
+        initialisers,
+        fields,
+        methods,
+        parts,
+        code,
+        budget,
+    );
+    with_state(s, &cells, &kinds, &marks, &classes, &heap, &statics)
 }

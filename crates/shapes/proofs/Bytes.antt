@@ -1,19 +1,17 @@
 -- Types and their bytes.
-use Prim.Native.Nat.{ℕ, zero, suc, _+_, _-_, _≤_, _<_}
-use mathlib.Core.Path.{_≡_, refl, sym, ap, _∙_, subst}
-use mathlib.Core.Bool.{Bool, true, false, not, _&&_, _||_}
-use mathlib.Core.Option.{Option, none, some}
-use mathlib.Core.Logic.{_⊎_, inl, inr, ⊎-elim}
-use mathlib.Core.List.{List, [], _∷_}
+use Prim.Native.Nat.{ℕ, _+_, _-_, _≤_, _<_}
+use mathlib.Core.Path.{_≡_, refl, sym, ap}
+use mathlib.Core.Bool.{Bool, true, false, not}
+use mathlib.Core.Logic.{_⊎_, ⊎-elim}
+use mathlib.Core.List.{List}
 use native.Mathlib.Omega.{arith}
-use borrow.Author.Tests.{eq-eqb, ne-eqb, lt-ltb, le-ltb, lt-leb, le-leb}
-use lib.Dec.{eqb, ltb, leb, eqb→eq, eqb-refl}
-use lib.ListN.{length, getD, List·getD-eq-default}
-use Rattle.model.specs.Answer.{pick, orElse, row, at}
-use Rattle.model.specs.Tables.{Ty, int32, int64, F, null, class, byteOf, eqTy, eqTys, parentOf, climbs, descends}
+use borrow.Author.Tests.{eq-eqb, ne-eqb}
+use lib.Dec.{eqb}
+use Rattle.model.specs.Answer.{pick}
+use Rattle.model.specs.Tables.{Ty, int32, int64, F, null, class, byteOf, eqTy, descends}
 use Rattle.model.specs.Code.{Unary, neg, not-bits, conv-i4, conv-i8, conv-r8}
-use Rattle.model.specs.Operators.{refersTo, fitsClass, fits, Kind, k32, k64, kF, reference, kind, kindNumber, same, unaryOf, Conversion, conversion, negOf, notOf, conv4Of, conv8Of, convFOf}
-use Rattle.shapes.specs.Pool.{Parents}
+use Rattle.model.specs.Operators.{refersTo, fitsClass, fits, Kind, k32, k64, kF, reference, kind, kindNumber, same, unaryOf, conversion, negOf, notOf}
+use Rattle.model.specs.Operators.{conv4Of, conv8Of, convFOf}
 use Rattle.shapes.specs.Kinds.{isInteger, pairs, unaryBy, givenBy}
 
 -- a byte is the byte of one type
@@ -114,7 +112,8 @@ fits-low ps F (class d) e h z l = sym (fits-other ps F (class d) e)
 fits-low ps null (class d) e h z l = absurd (z refl)
 fits-low ps (class c) (class d) e h z l = absurd (omega arith)
 
-pub fits-class : (ps : List ℕ) (A B : Ty) → (byteOf A ≡ byteOf B → ⊥) → 32 ≤ byteOf B → 32 ≤ byteOf A → descends ps (byteOf A - 32) (byteOf B - 32) ≡ fits ps A B
+pub fits-class : (ps : List ℕ) (A B : Ty) → (byteOf A ≡ byteOf B → ⊥) → 32 ≤ byteOf B → 32 ≤ byteOf A
+    → descends ps (byteOf A - 32) (byteOf B - 32) ≡ fits ps A B
 unfolding fitsClass refersTo byteOf
 fits-class ps A int32 e h l = absurd (omega arith)
 fits-class ps A int64 e h l = absurd (omega arith)
@@ -128,42 +127,6 @@ fits-class ps (class c) (class d) e h l =
     let x : 32 + c - 32 ≡ c = omega arith in
     let y : 32 + d - 32 ≡ d = omega arith in
     rw (x, y) (sym (fits-other ps (class c) (class d) e))
-
--- ---- Going up from row to row
-
-pub climb-stop : (ps : List ℕ) (n d : ℕ) → climbs ps n 0 d ≡ false
-unfolding climbs
-climb-stop ps zero d = refl
-climb-stop ps (suc n) d = refl
-
-pub climb-zero : (ps : List ℕ) (n x d : ℕ) → x ≡ 0 → false ≡ climbs ps n x d
-climb-zero ps n x d e = rw e (sym (climb-stop ps n d))
-
-pub climb-here : (ps : List ℕ) (n x d : ℕ) → 0 < n → 0 < x → x ≡ d → climbs ps n x d ≡ true
-unfolding climbs
-climb-here ps zero x d h k e = absurd (omega arith)
-climb-here ps (suc n) zero d h k e = absurd (omega arith)
-climb-here ps (suc n) (suc x) d h k e = rw (eq-eqb (suc x) d e)
-
-pub climb-up : (ps : List ℕ) (n x d : ℕ) → 0 < n → 0 < x → (x ≡ d → ⊥) → climbs ps n x d ≡ climbs ps (n - 1) (parentOf ps x) d
-unfolding climbs
-climb-up ps zero x d h k e = absurd (omega arith)
-climb-up ps (suc n) zero d h k e = absurd (omega arith)
-climb-up ps (suc n) (suc x) d h k e = let z : suc n - 1 ≡ n = omega arith in rw (ne-eqb (suc x) d e, z)
-
--- no row past the last
-pub climb-over : (ps l : List ℕ) (n x d : ℕ) → 32 < x → (x ≡ d → ⊥) → Parents ps l → climbs ps n x d ≡ false
-unfolding climbs
-climb-over ps l zero x d h e p = refl
-climb-over ps l (suc n) zero d h e p = refl
-climb-over ps l (suc n) (suc x) d h e p =
-    let k : length l ≤ suc x = rw (p .size) (omega arith) in
-    let z : parentOf ps (suc x) ≡ 0 = sym (p .rows (suc x)) ∙ List·getD-eq-default l 0 k in
-    rw (ne-eqb (suc x) d e, z) (climb-stop ps n d)
-
-pub climb-used : (ps : List ℕ) (n x d : ℕ) → n ≡ 0 → false ≡ climbs ps n x d
-unfolding climbs
-climb-used ps n x d e = rw e
 
 -- ---- Pairs
 

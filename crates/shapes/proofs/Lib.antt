@@ -1,13 +1,6 @@
+-- What is proved beside the functions.
 pub mod Bytes
 pub mod Showing
 pub mod Replies
 pub mod Doing
 pub mod Walks
-pub mod Arrivals
-pub mod Branches
-pub mod Operands
-pub mod Passes
-pub mod Alike
-pub mod Visiting
-pub mod Loops
-pub mod Whole

@@ -1,6 +1,6 @@
 -- What an answer of the code says, by how it was made.
-use Prim.Native.Nat.{ℕ, zero, suc, _+_, _-_, _%_, _≤_, _<_}
-use mathlib.Core.Path.{_≡_, refl, sym, ap, _∙_, subst}
+use Prim.Native.Nat.{ℕ, suc, _+_, _%_, _≤_, _<_}
+use mathlib.Core.Path.{_≡_, refl, sym, subst}
 use mathlib.Core.List.{List, [], _∷_}
 use native.Mathlib.Omega.{arith}
 use lib.ListN.{length, getD, set}
@@ -8,8 +8,8 @@ use Rattle.model.specs.Answer.{Answer, bad, ok}
 use Rattle.model.specs.Tables.{Ty, byteOf}
 use Rattle.model.specs.Check.{Shape}
 use Rattle.shapes.specs.declared.shape.After.{After}
-use Rattle.shapes.specs.Pool.{Pool, pool, Top, Shows, Fine, Grown, Agrees}
-use Rattle.shapes.proofs.Showing.{height, under, top-byte, same-grown, grown, put-grown, put-shows}
+use Rattle.shapes.specs.Pool.{Pool, pool, Shows, Fine, Grown, Agrees}
+use Rattle.shapes.proofs.Showing.{height, under, top-byte, same-grown, put-grown, put-shows}
 
 abbrev upTo : Pool → ℕ → Pool
 upTo P n = pool (P .tops) (P .belows) (P .heights) n
@@ -19,7 +19,8 @@ pub stay : (P : Pool) (n : ℕ) → n ≡ P .made → Fine P → Grown P (upTo P
 stay P n e f = subst (λ (k : ℕ). Grown P (upTo P k)) (sym e) (same-grown P f)
 
 -- a fault
-pub refuses : (P : Pool) (r : After) (k : ℕ) (A : Answer ℕ Shape) → A ≡ bad k → (12 < k) × (k < 18) → (r .fault ≡ k) × (r .shape ≡ 1) × (r .made ≡ P .made) → Fine P
+pub refuses : (P : Pool) (r : After) (k : ℕ) (A : Answer ℕ Shape) → A ≡ bad k → (12 < k) × (k < 18) → (r .fault ≡ k) × (r .shape ≡ 1) × (r .made ≡ P .made)
+    → Fine P
     → Agrees (upTo P (r .made)) r A × Grown P (upTo P (r .made))
 unfolding Agrees
 refuses P r k A e l h f = (rw e (h .0, l .0, l .1), stay P (r .made) (h .2) f)
@@ -32,7 +33,8 @@ leaves P r S A e z n w f = (rw (e, n) (z, w), stay P (r .made) n f)
 
 -- a new shape
 pub brings : (P : Pool) (r : After) (t b h : List ℕ) (u : Ty) (S : Shape) (A : Answer ℕ Shape) (x s y : ℕ) → A ≡ ok (u ∷ S) → P .made < 2048
-    → ((r .fault ≡ 0) × (r .shape ≡ P .made) × (r .made ≡ P .made + 1)) × ((t ≡ set (P .tops) (P .made) x) × (b ≡ set (P .belows) (P .made) s) × (h ≡ set (P .heights) (P .made) y))
+    → ((r .fault ≡ 0) × (r .shape ≡ P .made) × (r .made ≡ P .made + 1))
+    × ((t ≡ set (P .tops) (P .made) x) × (b ≡ set (P .belows) (P .made) s) × (h ≡ set (P .heights) (P .made) y))
     → byteOf u ≡ x → y ≡ suc (length S) → Shows P S s → Fine P
     → Agrees (pool t b h (r .made)) r A × Grown P (pool t b h (r .made))
 unfolding Agrees
@@ -55,7 +57,8 @@ module _ (P : Pool) (C : Shape → Type 0) (s : ℕ) where
 
   -- one at least: its byte, and what is below it as the code reads that
   pub one-there : Fine P → 1 ≤ getD (P .heights) s 0
-      → ((t : Ty) (S : Shape) → byteOf t ≡ getD (P .tops) s 0 → getD (P .heights) s 0 ≡ suc (length S) → ((b : ℕ) → b ≡ getD (P .belows) s 0 % 2048 → Shows P S b) → C (t ∷ S))
+      → ((t : Ty) (S : Shape) → byteOf t ≡ getD (P .tops) s 0 → getD (P .heights) s 0 ≡ suc (length S)
+      → ((b : ℕ) → b ≡ getD (P .belows) s 0 % 2048 → Shows P S b) → C (t ∷ S))
       → (S : Shape) → Shows P S s → C S
   one-there f l y [] w = let h : getD (P .heights) s 0 ≡ 0 = height P [] s w in absurd (omega arith)
   one-there f l y (t ∷ S) w = y t S (top-byte P t S s w) (height P (t ∷ S) s w) (λ b e. under P t S s b f w e)
@@ -109,7 +112,8 @@ two P S s f l w =
 pub few-1 : (P : Pool) (f : Shape → Answer ℕ Shape) (s k : ℕ) → f [] ≡ bad k → getD (P .heights) s 0 < 1 → (S : Shape) → Shows P S s → f S ≡ bad k
 few-1 P f s k e l S w = none-there P (λ R. f R ≡ bad k) s l e S w
 
-pub few-2 : (P : Pool) (f : Shape → Answer ℕ Shape) (s k : ℕ) → f [] ≡ bad k → ((t : Ty) → f (t ∷ []) ≡ bad k) → getD (P .heights) s 0 < 2 → (S : Shape) → Shows P S s → f S ≡ bad k
+pub few-2 : (P : Pool) (f : Shape → Answer ℕ Shape) (s k : ℕ) → f [] ≡ bad k → ((t : Ty) → f (t ∷ []) ≡ bad k) → getD (P .heights) s 0 < 2 → (S : Shape)
+    → Shows P S s → f S ≡ bad k
 few-2 P f s k e g l S w = one-at-most P (λ R. f R ≡ bad k) s l e g S w
 
 -- an equal answer
@@ -117,5 +121,6 @@ pub told : (P Q : Pool) (r : After) (A B : Answer ℕ Shape) → A ≡ B → Agr
 told P Q r A B e h = subst (λ (X : Answer ℕ Shape). Agrees Q r X × Grown P Q) (sym e) h
 
 -- nothing is made
-pub settled : (P : Pool) (r : After) (A : Answer ℕ Shape) → r .made ≡ P .made → Agrees (upTo P (r .made)) r A × Grown P (upTo P (r .made)) → Agrees P r A × Grown P P
+pub settled : (P : Pool) (r : After) (A : Answer ℕ Shape) → r .made ≡ P .made → Agrees (upTo P (r .made)) r A × Grown P (upTo P (r .made))
+    → Agrees P r A × Grown P P
 settled P r A e h = subst (λ (n : ℕ). Agrees (upTo P n) r A × Grown P (upTo P n)) e h

@@ -1,17 +1,14 @@
 -- What numbers stand for.
-use Prim.Native.Nat.{ℕ, zero, suc, _+_, _-_, _%_, _≤_, _<_}
-use mathlib.Core.Path.{_≡_, refl, sym, ap, _∙_, subst}
-use mathlib.Core.Bool.{Bool, true, false}
-use mathlib.Core.Option.{Option, none, some}
-use mathlib.Core.List.{List, [], _∷_}
+use Prim.Native.Nat.{ℕ, suc, _+_, _%_, _≤_, _<_}
+use mathlib.Core.Path.{_≡_, refl, sym, _∙_, subst}
+use mathlib.Core.Option.{some}
+use mathlib.Core.List.{[], _∷_}
 use native.Mathlib.Omega.{arith}
 use lib.ListN.{length, getD, set, length-set}
 use lib.Seq.{getD-set-same, getD-set-other}
-use Rattle.model.specs.Answer.{Answer, bad, ok}
 use Rattle.model.specs.Tables.{Ty, byteOf}
 use Rattle.model.specs.Check.{Shape}
-use Rattle.shapes.specs.declared.shape.After.{After}
-use Rattle.shapes.specs.Pool.{Pool, pool, Top, Shows, Fine, Grown, Agrees}
+use Rattle.shapes.specs.Pool.{Pool, pool, Shows, Fine, Grown}
 use Rattle.shapes.proofs.Bytes.{byte-inj}
 
 -- the height is the length

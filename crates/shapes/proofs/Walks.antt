@@ -2,19 +2,18 @@
 use Prim.Native.Nat.{ℕ, zero, suc, _+_, _-_, _%_, _≤_, _<_}
 use mathlib.Core.Path.{_≡_, refl, sym, ap, _∙_, subst}
 use mathlib.Core.Bool.{Bool, true, false, _&&_}
-use mathlib.Core.Option.{Option, none, some}
+use mathlib.Core.Option.{Option, some}
 use mathlib.Core.List.{List, [], _∷_}
 use native.Mathlib.Omega.{arith}
 use borrow.Author.Tests.{eq-eqb, ne-eqb}
 use lib.Dec.{eqb}
-use lib.ListN.{length, getD, drop, take}
+use lib.ListN.{length, getD, drop}
 use lib.Seq.{take-all}
 use Rattle.model.specs.Answer.{at}
 use Rattle.model.specs.Tables.{Ty, byteOf, eqTy, eqTys}
 use Rattle.model.specs.Operators.{fits}
 use Rattle.model.specs.State.{fitAll, firsts}
 use Rattle.model.specs.Check.{Shape}
-use Rattle.shapes.specs.declared.effect.Popped.{Popped}
 use Rattle.shapes.specs.Pool.{Pool, Shows, Fine}
 use Rattle.shapes.specs.Effects.{Types, Pops}
 use Rattle.shapes.proofs.Showing.{height, one-shape}
@@ -32,7 +31,8 @@ pub record Walk (P : Pool) (A B : Shape) (n x y : ℕ) : Type 0 where
   pub size-right : length right ≡ n
   pub rest : eqTys A B ≡ eqTys left right
 
-pub walk-start : (P : Pool) (A B : Shape) (n x y : ℕ) → Shows P A x → Shows P B y → n ≡ getD (P .heights) x 0 → getD (P .heights) x 0 ≡ getD (P .heights) y 0 → Walk P A B n x y
+pub walk-start : (P : Pool) (A B : Shape) (n x y : ℕ) → Shows P A x → Shows P B y → n ≡ getD (P .heights) x 0
+    → getD (P .heights) x 0 ≡ getD (P .heights) y 0 → Walk P A B n x y
 walk-start P A B n x y a b e h =
     record {
       left = A;
@@ -84,7 +84,8 @@ module _ (P : Pool) (A B : Shape) (n x y : ℕ) (f : Fine P) (w : Walk P A B n x
       sym (w .rest ∙ (eqTys-top (w .left) (w .right) (left-one .rest) (right-one .rest) (left-one .top) (right-one .top) (left-one .is) (right-one .is)
       ∙ rw (ne-eqb (byteOf (left-one .top)) (byteOf (right-one .top)) (λ e. h (sym (left-one .byte) ∙ (e ∙ right-one .byte))))))
 
-  pub walk-next : (c d : ℕ) → getD (P .tops) x 0 ≡ getD (P .tops) y 0 → c ≡ getD (P .belows) x 0 % 2048 → d ≡ getD (P .belows) y 0 % 2048 → Walk P A B (n - 1) c d
+  pub walk-next : (c d : ℕ) → getD (P .tops) x 0 ≡ getD (P .tops) y 0 → c ≡ getD (P .belows) x 0 % 2048 → d ≡ getD (P .belows) y 0 % 2048
+      → Walk P A B (n - 1) c d
   walk-next c d h p q =
       let a : length (w .left) ≡ n = w .size-left in
       let b : length (w .right) ≡ n = w .size-right in
@@ -107,7 +108,8 @@ nil-of (t ∷ A) e = absurd (omega arith)
 
 pub walk-end : (P : Pool) (A B : Shape) (n x y : ℕ) → Walk P A B n x y → n ≡ 0 → true ≡ eqTys A B
 walk-end P A B n x y w e =
-    sym (w .rest ∙ (ap (λ (l : Shape). eqTys l (w .right)) (nil-of (w .left) (w .size-left ∙ e) ∙ sym (nil-of (w .right) (w .size-right ∙ e))) ∙ eqTys-refl (w .right)))
+    sym (w .rest ∙ (ap (λ (l : Shape). eqTys l (w .right)) (nil-of (w .left) (w .size-left ∙ e) ∙ sym (nil-of (w .right) (w .size-right ∙ e))) ∙ eqTys-refl
+    (w .right)))
 
 -- ---- Values and types
 
@@ -127,7 +129,8 @@ at-less [] i h C g = absurd (omega arith)
 at-less (t ∷ ts) zero h C g = g t refl
 at-less (t ∷ ts) (suc i) h C g = at-less ts i (omega arith) C g
 
-fit-top : (ps : List ℕ) (ts : List Ty) (i : ℕ) (S R : Shape) (v : Ty) → S ≡ v ∷ R → fitDown (fits ps) ts (suc i) S ≡ (fitAt (fits ps) v (at ts i) && fitDown (fits ps) ts i R)
+fit-top : (ps : List ℕ) (ts : List Ty) (i : ℕ) (S R : Shape) (v : Ty) → S ≡ v ∷ R
+    → fitDown (fits ps) ts (suc i) S ≡ (fitAt (fits ps) v (at ts i) && fitDown (fits ps) ts i R)
 unfolding fitDown
 fit-top ps ts i S R v e = rw e
 
@@ -141,9 +144,12 @@ drop-top : (i : ℕ) (S R : Shape) (v : Ty) → S ≡ v ∷ R → drop (suc i) S
 drop-top i S R v e = rw e
 
 module _ (P : Pool) (ps l : List ℕ) (ts : List Ty) (S : Shape) (n i x from : ℕ) (r : Bool) (f : Fine P) (p : Popping P ps ts S n (suc i) x)
-    (types : Types l from ts) (inside : i < length ts) (said : (A B : Ty) → byteOf A ≡ getD (P .tops) x 0 → byteOf B ≡ getD l (from + i) 0 → r ≡ fits ps A B) where
+    (types : Types l from ts) (inside : i < length ts) (said : (A B : Ty) → byteOf A ≡ getD (P .tops) x 0 → byteOf B ≡ getD l (from + i) 0
+    → r ≡ fits ps A B) where
   top-one : One P (p .rest) x
-  top-one = one P (p .rest) x f (let h : getD (P .heights) x 0 ≡ length (p .rest) = height P (p .rest) x (p .shows) in let k : suc i ≤ length (p .rest) = p .enough in omega arith) (p .shows)
+  top-one =
+      one P (p .rest) x f (let h : getD (P .heights) x 0 ≡ length (p .rest) = height P (p .rest) x (p .shows) in let k : suc i ≤ length (p .rest) =
+      p .enough in omega arith) (p .shows)
 
   fit-said : fitAt (fits ps) (top-one .top) (at ts i) ≡ r
   unfolding fitAt

@@ -1,14 +1,14 @@
 -- The effects of the groups of instructions that the check treats alike.
-use Prim.Native.Nat.{ℕ, zero, suc, _+_, _≤_, _<_}
+use Prim.Native.Nat.{ℕ, _+_, _<_}
 use mathlib.Core.Path.{_≡_}
-use mathlib.Core.Bool.{Bool, true, false}
+use mathlib.Core.Bool.{Bool, true}
 use mathlib.Core.Option.{Option, none, some}
-use mathlib.Core.List.{List, [], _∷_, _++_}
-use lib.ListN.{length, getD, drop}
-use Rattle.model.specs.Answer.{Answer, bad, ok, _>>=_, guard, at}
+use mathlib.Core.List.{List, _∷_, _++_}
+use lib.ListN.{length, getD}
+use Rattle.model.specs.Answer.{Answer, ok, _>>=_, guard, at}
 use Rattle.model.specs.Tables.{Ty, int32, byteOf, Method, Module, asList}
 use Rattle.model.specs.Operators.{kind, fits}
-use Rattle.model.specs.State.{wrongType, pops, pop2, room}
+use Rattle.model.specs.State.{wrongType, pops, pop2, room, checkNumber}
 use Rattle.model.specs.Check.{Shape}
 use Rattle.shapes.specs.Pool.{Pool, Shows}
 use Rattle.shapes.specs.Kinds.{pairs}
@@ -16,19 +16,19 @@ use Rattle.shapes.specs.declared.effect.Popped.{Popped}
 
 -- an operator of two operands whose result has the first one's type
 unfoldable pub binaryEffect : ℕ → Shape → Answer ℕ Shape
-binaryEffect w S = pop2 10 S >>= λ p. guard (pairs w (kind (p .0)) (kind (p .1))) (wrongType 10) >>= λ _. ok (p .0 ∷ p .2)
+binaryEffect w S = pop2 checkNumber S >>= λ p. guard (pairs w (kind (p .0)) (kind (p .1))) (checkNumber wrongType) >>= λ _. ok (p .0 ∷ p .2)
 
 unfoldable pub compareEffect : ℕ → Shape → Answer ℕ Shape
-compareEffect w S = pop2 10 S >>= λ p. guard (pairs w (kind (p .0)) (kind (p .1))) (wrongType 10) >>= λ _. ok (int32 ∷ p .2)
+compareEffect w S = pop2 checkNumber S >>= λ p. guard (pairs w (kind (p .0)) (kind (p .1))) (checkNumber wrongType) >>= λ _. ok (int32 ∷ p .2)
 
 unfoldable pub whenEffect : ℕ → Shape → Answer ℕ Shape
-whenEffect w S = pop2 10 S >>= λ p. guard (pairs w (kind (p .0)) (kind (p .1))) (wrongType 10) >>= λ _. ok (p .2)
+whenEffect w S = pop2 checkNumber S >>= λ p. guard (pairs w (kind (p .0)) (kind (p .1))) (checkNumber wrongType) >>= λ _. ok (p .2)
 
 -- values of these types are popped, and one of the type to come, if any, is pushed
 unfoldable pub calledEffect : Module → Method → List Ty → Option Ty → Shape → Answer ℕ Shape
 calledEffect M m ts o S =
-    pops 10 (fits (M .parents)) ts S >>= λ p.
-    room 10 m (length (asList o)) (p .rest) >>= λ _.
+    pops checkNumber (fits (M .parents)) ts S >>= λ p.
+    room checkNumber m (length (asList o)) (p .rest) >>= λ _.
     ok (asList o ++ p .rest)
 
 -- the byte of a type that may be missing; the type has another byte than 0

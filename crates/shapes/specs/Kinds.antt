@@ -1,12 +1,12 @@
 -- What the tests on types say.
 use Prim.Native.Nat.{ℕ}
-use mathlib.Core.Bool.{Bool, true, false, not, _&&_, _||_}
+use mathlib.Core.Bool.{Bool, true, not, _&&_, _||_}
 use mathlib.Core.Option.{Option, none, some}
 use lib.Dec.{eqb}
 use Rattle.model.specs.Answer.{pick}
-use Rattle.model.specs.Tables.{Ty, byteOf}
+use Rattle.model.specs.Tables.{byteOf}
 use Rattle.model.specs.Code.{Unary, neg, not-bits, conv-i4, conv-i8, conv-r8}
-use Rattle.model.specs.Operators.{Kind, kindNumber, k32, k64, kF, reference, same, unaryOf, Conversion}
+use Rattle.model.specs.Operators.{Kind, k32, k64, reference, same, Conversion}
 
 unfoldable pub isInteger : Kind → Bool
 isInteger k = same k k32 || same k k64

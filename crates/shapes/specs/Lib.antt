@@ -1,9 +1,3 @@
 pub mod Pool
 pub mod Kinds
 pub mod Effects
-pub mod Groups
-pub mod Held
-pub mod Found
-pub mod Fused
-pub mod Bounded
-pub mod Verdicts

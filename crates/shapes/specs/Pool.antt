@@ -5,7 +5,7 @@ use mathlib.Core.Option.{Option, none, some}
 use mathlib.Core.List.{List, [], _∷_}
 use lib.ListN.{length, getD}
 use Rattle.model.specs.Answer.{Answer, bad, ok}
-use Rattle.model.specs.Tables.{Ty, byteOf, parentOf}
+use Rattle.model.specs.Tables.{Ty, byteOf}
 use Rattle.model.specs.Check.{Shape}
 use Rattle.shapes.specs.declared.shape.After.{After}
 
@@ -69,8 +69,3 @@ Effect P Q r s f = Fine P → (S : Shape) → Shows P S s → Agrees Q r (f S) �
 -- the same for one with an operand
 abbrev pub Operand : {A : Type 0} → Pool → Pool → After → ℕ → (A → Shape → Answer ℕ Shape) → Option A → Type 0
 Operand P Q r s f o = Fine P → (S : Shape) → Shows P S s → Takes Q r (λ a. f a S) o × Grown P Q
-
--- the array of parents, by class row
-pub record Parents (ps l : List ℕ) : Type 0 where
-  pub size : length l ≡ 33
-  pub rows : (c : ℕ) → getD l c 0 ≡ parentOf ps c

@@ -9,7 +9,8 @@ ghost use Rattle.model.specs.Code.{dup, pop, ret, unary, Act};
 ghost use Rattle.model.specs.Operators.{fits};
 ghost use Rattle.model.specs.State.{fitAll, firsts};
 ghost use Rattle.model.specs.Check.{Shape, popsOne, pushes, plainEffect, testEffect, castEffect, effect};
-ghost use Rattle.shapes.specs.Pool.{pool, Fine, Shows, Small, Effect, Parents};
+ghost use Rattle.ancestor.specs.Parents.{Parents};
+ghost use Rattle.shapes.specs.Pool.{pool, Fine, Shows, Small, Effect};
 ghost use Rattle.shapes.specs.Kinds.{unaryBy};
 ghost use Rattle.shapes.specs.Effects.{binaryEffect, compareEffect, whenEffect, calledEffect, Due, Gives, Types, Pops};
 use super::fit::converts;
@@ -17,7 +18,14 @@ use super::fit::fits;
 use super::fit::kind_of;
 use super::fit::takes;
 use super::fit::wide;
+use super::numbers::F;
+use super::numbers::INT32;
+use super::numbers::NULL;
+use super::numbers::TOO_FEW;
+use super::numbers::TOO_MANY;
+use super::numbers::WRONG_TYPE;
 use super::shape::After;
+use super::shape::EMPTY;
 use super::shape::below;
 use super::shape::fault;
 use super::shape::put;
@@ -33,11 +41,13 @@ pub fn push(
     max: u8,
 ) -> After
     requires { ⌜ made < 2048 ⌝ ∗ ⌜ s < 2048 ⌝ }
-    ensures { λ r. ⌜ Small r made ⌝ ∗ ⌜ ((m : Method) (u : Ty) → m .maxStack ≡ max → byteOf u ≡ t → Effect (pool (now (tops .entry)) (now (belows .entry)) (now (heights .entry)) made) (pool (now (tops .exit)) (now (belows .exit)) (now (heights .exit)) (r .made)) r s (pushes m u)) ⌝ }
+    ensures { λ r. ⌜ Small r made ⌝ ∗ ⌜ ((m : Method) (u : Ty) → m .maxStack ≡ max → byteOf u ≡ t →
+        Effect (pool (now (tops .entry)) (now (belows .entry)) (now (heights .entry)) made)
+        (pool (now (tops .exit)) (now (belows .exit)) (now (heights .exit)) (r .made)) r s (pushes m u)) ⌝ }
 {
     let h = heights[s];
     if max <= h {
-        return fault(14, made);
+        return fault(TOO_MANY, made);
     }
     put(tops, belows, heights, made, s, t, h + 1)
 }
@@ -51,10 +61,12 @@ pub fn dup(
     max: u8,
 ) -> After
     requires { ⌜ made < 2048 ⌝ ∗ ⌜ s < 2048 ⌝ }
-    ensures { λ r. ⌜ Small r made ⌝ ∗ ⌜ ((M : Module) (m : Method) → m .maxStack ≡ max → Effect (pool (now (tops .entry)) (now (belows .entry)) (now (heights .entry)) made) (pool (now (tops .exit)) (now (belows .exit)) (now (heights .exit)) (r .made)) r s (plainEffect M m dup)) ⌝ }
+    ensures { λ r. ⌜ Small r made ⌝ ∗ ⌜ ((M : Module) (m : Method) → m .maxStack ≡ max →
+        Effect (pool (now (tops .entry)) (now (belows .entry)) (now (heights .entry)) made)
+        (pool (now (tops .exit)) (now (belows .exit)) (now (heights .exit)) (r .made)) r s (plainEffect M m dup)) ⌝ }
 {
     if heights[s] < 1 {
-        return fault(13, made);
+        return fault(TOO_FEW, made);
     }
     let t = tops[s];
     push(tops, belows, heights, made, s, t, max)
@@ -62,10 +74,12 @@ pub fn dup(
 
 pub fn pop(belows: &[u16; 2048], heights: &[u8; 2048], made: usize, s: usize) -> After
     requires { ⌜ made < 2048 ⌝ ∗ ⌜ s < 2048 ⌝ }
-    ensures { λ r. ⌜ Small r made ⌝ ∗ ⌜ ((l : List ℕ) (M : Module) (m : Method) → Effect (pool l (now (belows .entry)) (now (heights .entry)) made) (pool l (now (belows .entry)) (now (heights .entry)) (r .made)) r s (plainEffect M m pop)) ⌝ }
+    ensures { λ r. ⌜ Small r made ⌝ ∗ ⌜ ((l : List ℕ) (M : Module) (m : Method) →
+        Effect (pool l (now (belows .entry)) (now (heights .entry)) made) (pool l
+        (now (belows .entry)) (now (heights .entry)) (r .made)) r s (plainEffect M m pop)) ⌝ }
 {
     if heights[s] < 1 {
-        return fault(13, made);
+        return fault(TOO_FEW, made);
     }
     After {
         fault: 0,
@@ -85,10 +99,12 @@ pub fn store(
     t: u8,
 ) -> After
     requires { ⌜ made < 2048 ⌝ ∗ ⌜ s < 2048 ⌝ }
-    ensures { λ r. ⌜ Small r made ⌝ ∗ ⌜ ((M : Module) (u : Ty) → Parents (M .parents) (now (parents .entry)) → byteOf u ≡ t → Effect (pool (now (tops .entry)) (now (belows .entry)) (now (heights .entry)) made) (pool (now (tops .entry)) (now (belows .entry)) (now (heights .entry)) (r .made)) r s (popsOne M u)) ⌝ }
+    ensures { λ r. ⌜ Small r made ⌝ ∗ ⌜ ((M : Module) (u : Ty) → Parents (M .parents) (now (parents .entry)) → byteOf u ≡ t →
+        Effect (pool (now (tops .entry)) (now (belows .entry)) (now (heights .entry)) made)
+        (pool (now (tops .entry)) (now (belows .entry)) (now (heights .entry)) (r .made)) r s (popsOne M u)) ⌝ }
 {
     if heights[s] < 1 {
-        return fault(13, made);
+        return fault(TOO_FEW, made);
     }
     if fits(parents, tops[s], t) {
         return After {
@@ -97,7 +113,7 @@ pub fn store(
             made,
         };
     }
-    fault(15, made)
+    fault(WRONG_TYPE, made)
 }
 
 // A field of an object takes the object's place.
@@ -112,17 +128,20 @@ pub fn ldfld(
     t: u8,
 ) -> After
     requires { ⌜ made < 2048 ⌝ ∗ ⌜ s < 2048 ⌝ }
-    ensures { λ r. ⌜ Small r made ⌝ ∗ ⌜ ((M : Module) (m : Method) (d : Field) → Parents (M .parents) (now (parents .entry)) → byteOf (class (d .owner)) ≡ owner → byteOf (d .type) ≡ t → Effect (pool (now (tops .entry)) (now (belows .entry)) (now (heights .entry)) made) (pool (now (tops .exit)) (now (belows .exit)) (now (heights .exit)) (r .made)) r s (effect M m (Act.ldfld 0 d))) ⌝ }
+    ensures { λ r. ⌜ Small r made ⌝ ∗ ⌜ ((M : Module) (m : Method) (d : Field) → Parents (M .parents) (now (parents .entry)) →
+        byteOf (class (d .owner)) ≡ owner → byteOf (d .type) ≡ t →
+        Effect (pool (now (tops .entry)) (now (belows .entry)) (now (heights .entry)) made)
+        (pool (now (tops .exit)) (now (belows .exit)) (now (heights .exit)) (r .made)) r s (effect M m (Act.ldfld 0 d))) ⌝ }
 {
     let h = heights[s];
     if h < 1 {
-        return fault(13, made);
+        return fault(TOO_FEW, made);
     }
     if fits(parents, tops[s], owner) {
         let b = below(belows, s);
         return put(tops, belows, heights, made, b, t, h);
     }
-    fault(15, made)
+    fault(WRONG_TYPE, made)
 }
 
 pub fn stfld(
@@ -136,10 +155,13 @@ pub fn stfld(
     t: u8,
 ) -> After
     requires { ⌜ made < 2048 ⌝ ∗ ⌜ s < 2048 ⌝ }
-    ensures { λ r. ⌜ Small r made ⌝ ∗ ⌜ ((M : Module) (m : Method) (d : Field) → Parents (M .parents) (now (parents .entry)) → byteOf (class (d .owner)) ≡ owner → byteOf (d .type) ≡ t → Effect (pool (now (tops .entry)) (now (belows .entry)) (now (heights .entry)) made) (pool (now (tops .entry)) (now (belows .entry)) (now (heights .entry)) (r .made)) r s (effect M m (Act.stfld 0 d))) ⌝ }
+    ensures { λ r. ⌜ Small r made ⌝ ∗ ⌜ ((M : Module) (m : Method) (d : Field) → Parents (M .parents) (now (parents .entry)) →
+        byteOf (class (d .owner)) ≡ owner → byteOf (d .type) ≡ t →
+        Effect (pool (now (tops .entry)) (now (belows .entry)) (now (heights .entry)) made)
+        (pool (now (tops .entry)) (now (belows .entry)) (now (heights .entry)) (r .made)) r s (effect M m (Act.stfld 0 d))) ⌝ }
 {
     if heights[s] < 2 {
-        return fault(13, made);
+        return fault(TOO_FEW, made);
     }
     let b = below(belows, s);
     if fits(parents, tops[b], owner) {
@@ -150,9 +172,9 @@ pub fn stfld(
                 made,
             };
         }
-        return fault(15, made);
+        return fault(WRONG_TYPE, made);
     }
-    fault(15, made)
+    fault(WRONG_TYPE, made)
 }
 
 // After castclass and isinst the check finds the token's class.
@@ -165,17 +187,19 @@ pub fn cast(
     t: u8,
 ) -> After
     requires { ⌜ made < 2048 ⌝ ∗ ⌜ s < 2048 ⌝ }
-    ensures { λ r. ⌜ Small r made ⌝ ∗ ⌜ ((c : ℕ) → byteOf (class c) ≡ t → Effect (pool (now (tops .entry)) (now (belows .entry)) (now (heights .entry)) made) (pool (now (tops .exit)) (now (belows .exit)) (now (heights .exit)) (r .made)) r s (castEffect c)) ⌝ }
+    ensures { λ r. ⌜ Small r made ⌝ ∗ ⌜ ((c : ℕ) → byteOf (class c) ≡ t →
+        Effect (pool (now (tops .entry)) (now (belows .entry)) (now (heights .entry)) made)
+        (pool (now (tops .exit)) (now (belows .exit)) (now (heights .exit)) (r .made)) r s (castEffect c)) ⌝ }
 {
     let h = heights[s];
     if h < 1 {
-        return fault(13, made);
+        return fault(TOO_FEW, made);
     }
-    if kind_of(tops[s]) == 0 {
+    if kind_of(tops[s]) == NULL {
         let b = below(belows, s);
         return put(tops, belows, heights, made, b, t, h);
     }
-    fault(15, made)
+    fault(WRONG_TYPE, made)
 }
 
 pub fn unary(
@@ -187,15 +211,17 @@ pub fn unary(
     g: u8,
 ) -> After
     requires { ⌜ made < 2048 ⌝ ∗ ⌜ s < 2048 ⌝ }
-    ensures { λ r. ⌜ Small r made ⌝ ∗ ⌜ ((M : Module) (m : Method) → Effect (pool (now (tops .entry)) (now (belows .entry)) (now (heights .entry)) made) (pool (now (tops .exit)) (now (belows .exit)) (now (heights .exit)) (r .made)) r s (plainEffect M m (unary (unaryBy g)))) ⌝ }
+    ensures { λ r. ⌜ Small r made ⌝ ∗ ⌜ ((M : Module) (m : Method) →
+        Effect (pool (now (tops .entry)) (now (belows .entry)) (now (heights .entry)) made)
+        (pool (now (tops .exit)) (now (belows .exit)) (now (heights .exit)) (r .made)) r s (plainEffect M m (unary (unaryBy g)))) ⌝ }
 {
     let h = heights[s];
     let t = converts(g, tops[s]);
     if h < 1 {
-        return fault(13, made);
+        return fault(TOO_FEW, made);
     }
-    if t == 0 {
-        return fault(15, made);
+    if t == NULL {
+        return fault(WRONG_TYPE, made);
     }
     let b = below(belows, s);
     put(tops, belows, heights, made, b, t, h)
@@ -211,10 +237,11 @@ pub fn binary(
     which: u8,
 ) -> After
     requires { ⌜ made < 2048 ⌝ ∗ ⌜ s < 2048 ⌝ }
-    ensures { λ r. ⌜ Small r made ⌝ ∗ ⌜ (Effect (pool (now (tops .entry)) (now (belows .entry)) (now (heights .entry)) made) (pool (now (tops .entry)) (now (belows .entry)) (now (heights .entry)) (r .made)) r s (binaryEffect which)) ⌝ }
+    ensures { λ r. ⌜ Small r made ⌝ ∗ ⌜ (Effect (pool (now (tops .entry)) (now (belows .entry)) (now (heights .entry)) made)
+        (pool (now (tops .entry)) (now (belows .entry)) (now (heights .entry)) (r .made)) r s (binaryEffect which)) ⌝ }
 {
     if heights[s] < 2 {
-        return fault(13, made);
+        return fault(TOO_FEW, made);
     }
     let b = below(belows, s);
     if takes(which, tops[b], tops[s]) {
@@ -224,7 +251,7 @@ pub fn binary(
             made,
         };
     }
-    fault(15, made)
+    fault(WRONG_TYPE, made)
 }
 
 // A comparison gives an int32.
@@ -237,18 +264,19 @@ pub fn compare(
     which: u8,
 ) -> After
     requires { ⌜ made < 2048 ⌝ ∗ ⌜ s < 2048 ⌝ }
-    ensures { λ r. ⌜ Small r made ⌝ ∗ ⌜ (Effect (pool (now (tops .entry)) (now (belows .entry)) (now (heights .entry)) made) (pool (now (tops .exit)) (now (belows .exit)) (now (heights .exit)) (r .made)) r s (compareEffect which)) ⌝ }
+    ensures { λ r. ⌜ Small r made ⌝ ∗ ⌜ (Effect (pool (now (tops .entry)) (now (belows .entry)) (now (heights .entry)) made)
+        (pool (now (tops .exit)) (now (belows .exit)) (now (heights .exit)) (r .made)) r s (compareEffect which)) ⌝ }
 {
     let h = heights[s];
     if h < 2 {
-        return fault(13, made);
+        return fault(TOO_FEW, made);
     }
     let b = below(belows, s);
     if takes(which, tops[b], tops[s]) {
         let u = below(belows, b);
-        return put(tops, belows, heights, made, u, 1, h - 1);
+        return put(tops, belows, heights, made, u, INT32, h - 1);
     }
-    fault(15, made)
+    fault(WRONG_TYPE, made)
 }
 
 // A branch on a comparison.
@@ -261,10 +289,11 @@ pub fn when(
     which: u8,
 ) -> After
     requires { ⌜ made < 2048 ⌝ ∗ ⌜ s < 2048 ⌝ }
-    ensures { λ r. ⌜ Small r made ⌝ ∗ ⌜ (Effect (pool (now (tops .entry)) (now (belows .entry)) (now (heights .entry)) made) (pool (now (tops .entry)) (now (belows .entry)) (now (heights .entry)) made) r s (whenEffect which)) ⌝ }
+    ensures { λ r. ⌜ Small r made ⌝ ∗ ⌜ (Effect (pool (now (tops .entry)) (now (belows .entry)) (now (heights .entry)) made)
+        (pool (now (tops .entry)) (now (belows .entry)) (now (heights .entry)) made) r s (whenEffect which)) ⌝ }
 {
     if heights[s] < 2 {
-        return fault(13, made);
+        return fault(TOO_FEW, made);
     }
     let b = below(belows, s);
     if takes(which, tops[b], tops[s]) {
@@ -274,7 +303,7 @@ pub fn when(
             made,
         };
     }
-    fault(15, made)
+    fault(WRONG_TYPE, made)
 }
 
 // brtrue and brfalse take int32, int64 or a reference.
@@ -286,13 +315,14 @@ pub fn test(
     s: usize,
 ) -> After
     requires { ⌜ made < 2048 ⌝ ∗ ⌜ s < 2048 ⌝ }
-    ensures { λ r. ⌜ Small r made ⌝ ∗ ⌜ (Effect (pool (now (tops .entry)) (now (belows .entry)) (now (heights .entry)) made) (pool (now (tops .entry)) (now (belows .entry)) (now (heights .entry)) made) r s (testEffect)) ⌝ }
+    ensures { λ r. ⌜ Small r made ⌝ ∗ ⌜ (Effect (pool (now (tops .entry)) (now (belows .entry)) (now (heights .entry)) made)
+        (pool (now (tops .entry)) (now (belows .entry)) (now (heights .entry)) made) r s (testEffect)) ⌝ }
 {
     if heights[s] < 1 {
-        return fault(13, made);
+        return fault(TOO_FEW, made);
     }
-    if kind_of(tops[s]) == 3 {
-        return fault(15, made);
+    if kind_of(tops[s]) == F {
+        return fault(WRONG_TYPE, made);
     }
     After {
         fault: 0,
@@ -311,33 +341,35 @@ pub fn ret(
     due: u8,
 ) -> After
     requires { ⌜ made < 2048 ⌝ ∗ ⌜ s < 2048 ⌝ }
-    ensures { λ r. ⌜ Small r made ⌝ ∗ ⌜ ((l : List ℕ) (M : Module) (m : Method) → Parents (M .parents) (now (parents .entry)) → Due m due → Effect (pool (now (tops .entry)) l (now (heights .entry)) made) (pool (now (tops .entry)) l (now (heights .entry)) (r .made)) r s (plainEffect M m ret)) ⌝ }
+    ensures { λ r. ⌜ Small r made ⌝ ∗ ⌜ ((l : List ℕ) (M : Module) (m : Method) → Parents (M .parents) (now (parents .entry)) → Due m due →
+        Effect (pool (now (tops .entry)) l (now (heights .entry)) made) (pool (now (tops .entry)) l
+        (now (heights .entry)) (r .made)) r s (plainEffect M m ret)) ⌝ }
 {
     let h = heights[s];
-    if due == 0 {
+    if due == NULL {
         if h == 0 {
             return After {
                 fault: 0,
-                shape: 1,
+                shape: EMPTY,
                 made,
             };
         }
-        return fault(15, made);
+        return fault(WRONG_TYPE, made);
     }
     if h < 1 {
-        return fault(13, made);
+        return fault(TOO_FEW, made);
     }
     if fits(parents, tops[s], due) {
         if h == 1 {
             return After {
                 fault: 0,
-                shape: 1,
+                shape: EMPTY,
                 made,
             };
         }
-        return fault(15, made);
+        return fault(WRONG_TYPE, made);
     }
-    fault(15, made)
+    fault(WRONG_TYPE, made)
 }
 
 // What is left of a shape when values are popped, and whether they fit.
@@ -349,27 +381,30 @@ pub struct Popped {
 // n values are popped that fit the types from a place on, the last on top.
 fn pops(
     parents: &[u8; 33],
-    types: &[u8; 3096],
+    methods: &[u8; 4128],
     tops: &[u8; 2048],
     belows: &[u16; 2048],
     s: usize,
     from: usize,
     n: usize,
 ) -> Popped
-    requires { ⌜ s < 2048 ⌝ ∗ ⌜ from + n ≤ 3096 ⌝ }
-    ensures { λ r. ⌜ r .rest < 2048 ⌝ ∗ ⌜ ((k : ℕ) (h ps : List ℕ) (ts : List Ty) (S : Shape) → Parents ps (now (parents .entry)) → Types (now (types .entry)) from ts → length ts ≡ n → n ≤ length S → Fine (pool (now (tops .entry)) (now (belows .entry)) h k) → Shows (pool (now (tops .entry)) (now (belows .entry)) h k) S s → Pops (pool (now (tops .entry)) (now (belows .entry)) h k) r (fitAll (fits ps) ts (firsts n S [])) (drop n S)) ⌝ }
+    requires { ⌜ s < 2048 ⌝ ∗ ⌜ from + n ≤ 4128 ⌝ }
+    ensures { λ r. ⌜ r .rest < 2048 ⌝ ∗ ⌜ ((k : ℕ) (h ps : List ℕ) (ts : List Ty) (S : Shape) → Parents ps (now (parents .entry)) →
+        Types (now (methods .entry)) from ts → length ts ≡ n → n ≤ length S → Fine (pool (now (tops .entry)) (now (belows .entry)) h k) →
+        Shows (pool (now (tops .entry)) (now (belows .entry)) h k) S s →
+        Pops (pool (now (tops .entry)) (now (belows .entry)) h k) r (fitAll (fits ps) ts (firsts n S [])) (drop n S)) ⌝ }
 {
     let mut i = n;
     let mut x = s;
     while 0 < i {
         i -= 1;
         let at = from + i;
-        if fits(parents, tops[x], types[at]) {
+        if fits(parents, tops[x], methods[at]) {
             x = below(belows, x);
         } else {
             return Popped {
                 fit: false,
-                rest: 1,
+                rest: EMPTY,
             };
         }
     }
@@ -379,7 +414,7 @@ fn pops(
 // A call: n arguments are popped, and the value to come, unless it is 0, has room.
 pub fn call(
     parents: &[u8; 33],
-    types: &[u8; 3096],
+    methods: &[u8; 4128],
     tops: &mut [u8; 2048],
     belows: &mut [u16; 2048],
     heights: &mut [u8; 2048],
@@ -390,18 +425,21 @@ pub fn call(
     gives: u8,
     max: u8,
 ) -> After
-    requires { ⌜ made < 2048 ⌝ ∗ ⌜ s < 2048 ⌝ ∗ ⌜ from + n ≤ 3096 ⌝ }
-    ensures { λ r. ⌜ Small r made ⌝ ∗ ⌜ ((M : Module) (m : Method) (ts : List Ty) (o : Option Ty) → m .maxStack ≡ max → Parents (M .parents) (now (parents .entry)) → Types (now (types .entry)) from ts → length ts ≡ n → Gives o gives → Effect (pool (now (tops .entry)) (now (belows .entry)) (now (heights .entry)) made) (pool (now (tops .exit)) (now (belows .exit)) (now (heights .exit)) (r .made)) r s (calledEffect M m ts o)) ⌝ }
+    requires { ⌜ made < 2048 ⌝ ∗ ⌜ s < 2048 ⌝ ∗ ⌜ from + n ≤ 4128 ⌝ }
+    ensures { λ r. ⌜ Small r made ⌝ ∗ ⌜ ((M : Module) (m : Method) (ts : List Ty) (o : Option Ty) → m .maxStack ≡ max →
+        Parents (M .parents) (now (parents .entry)) → Types (now (methods .entry)) from ts → length ts ≡ n → Gives o gives →
+        Effect (pool (now (tops .entry)) (now (belows .entry)) (now (heights .entry)) made)
+        (pool (now (tops .exit)) (now (belows .exit)) (now (heights .exit)) (r .made)) r s (calledEffect M m ts o)) ⌝ }
 {
     if wide(heights[s]) < n {
-        return fault(13, made);
+        return fault(TOO_FEW, made);
     }
-    let p = pops(parents, types, tops, belows, s, from, n);
+    let p = pops(parents, methods, tops, belows, s, from, n);
     if p.fit {
-        if gives == 0 {
+        if gives == NULL {
             let rest = p.rest;
             if max < heights[rest] {
-                return fault(14, made);
+                return fault(TOO_MANY, made);
             }
             return After {
                 fault: 0,
@@ -411,5 +449,5 @@ pub fn call(
         }
         return push(tops, belows, heights, made, p.rest, gives, max);
     }
-    fault(15, made)
+    fault(WRONG_TYPE, made)
 }

@@ -3,11 +3,31 @@
 ghost use mathlib.Core.Path.{_≡_};
 ghost use mathlib.Core.List.{List};
 ghost use Prim.Native.Nat.{ℕ, _<_};
-ghost use Rattle.model.specs.Tables.{Ty, class, byteOf, descends};
+ghost use Rattle.model.specs.Tables.{Ty, class, byteOf};
 ghost use Rattle.model.specs.Operators.{Kind, kind, kindNumber, fits, unaryOf};
-ghost use Rattle.shapes.specs.Pool.{Parents};
+ghost use Rattle.ancestor.specs.Parents.{Parents};
 ghost use Rattle.shapes.specs.Kinds.{isInteger, pairs, unaryBy, givenBy};
+use super::numbers::CLASS;
+use super::numbers::CONV_I4;
+use super::numbers::CONV_R8;
+use super::numbers::F;
+use super::numbers::INT32;
+use super::numbers::INT64;
+use super::numbers::INTEGERS;
+use super::numbers::NEG;
+use super::numbers::NOT;
+use super::numbers::NULL;
+use super::numbers::NUMBERS;
+use super::numbers::SHIFT;
+use ancestor::descends;
 
+// The byte of a class is its row and this.
+pub const BEFORE_CLASSES: usize = 32;
+
+// The rows whose classes have a byte are below.
+const ROWS: u8 = 224;
+
+// A byte as a number.
 pub fn wide(b: u8) -> usize
     ensures { λ r. ⌜ (r ≡ b) × (r < 256) ⌝ }
 {
@@ -18,8 +38,8 @@ pub fn wide(b: u8) -> usize
 pub fn class_byte(row: u8) -> u8
     ensures { λ r. ⌜ (row < 224 → r ≡ byteOf (class row)) ⌝ }
 {
-    if row < 224 {
-        return row + 32;
+    if row < ROWS {
+        return row + CLASS;
     }
     0
 }
@@ -28,32 +48,10 @@ pub fn class_byte(row: u8) -> u8
 pub fn kind_of(t: u8) -> u8
     ensures { λ r. ⌜ ((A : Ty) → byteOf A ≡ t → r ≡ kindNumber (kind A)) ⌝ }
 {
-    if t < 4 {
+    if t <= F {
         return t;
     }
     0
-}
-
-// Whether a class is another or descends from it, n rows up at most.
-fn climbs(parents: &[u8; 33], c: usize, d: usize) -> bool
-    ensures { λ r. ⌜ ((ps : List ℕ) → Parents ps (now (parents .entry)) → r ≡ descends ps c d) ⌝ }
-{
-    let mut n = c;
-    let mut x = c;
-    while 0 < n {
-        if x == 0 {
-            return false;
-        }
-        if x == d {
-            return true;
-        }
-        if 32 < x {
-            return false;
-        }
-        x = wide(parents[x]);
-        n -= 1;
-    }
-    false
 }
 
 // Whether a value of type t fits type u.
@@ -63,16 +61,16 @@ pub fn fits(parents: &[u8; 33], t: u8, u: u8) -> bool
     if t == u {
         return true;
     }
-    if u < 32 {
+    if u < CLASS {
         return false;
     }
-    if t == 0 {
+    if t == NULL {
         return true;
     }
-    if t < 32 {
+    if t < CLASS {
         return false;
     }
-    climbs(parents, wide(t) - 32, wide(u) - 32)
+    descends(parents, wide(t) - BEFORE_CLASSES, wide(u) - BEFORE_CLASSES)
 }
 
 // Whether a pair of operands is of one kind: 0 two numbers, 1 two integers, 2 an integer and a shift's amount, else two of one kind.
@@ -81,8 +79,8 @@ pub fn takes(which: u8, a: u8, b: u8) -> bool
 {
     let x = kind_of(a);
     let y = kind_of(b);
-    if which == 2 {
-        if y != 1 {
+    if which == SHIFT {
+        if y != INT32 {
             return false;
         }
         return integer(x);
@@ -90,10 +88,10 @@ pub fn takes(which: u8, a: u8, b: u8) -> bool
     if x != y {
         return false;
     }
-    if which == 0 {
-        return x != 0;
+    if which == NUMBERS {
+        return x != NULL;
     }
-    if which == 1 {
+    if which == INTEGERS {
         return integer(x);
     }
     true
@@ -103,10 +101,10 @@ pub fn takes(which: u8, a: u8, b: u8) -> bool
 fn integer(k: u8) -> bool
     ensures { λ r. ⌜ ((A : Kind) → kindNumber A ≡ k → r ≡ isInteger A) ⌝ }
 {
-    if k == 1 {
+    if k == INT32 {
         return true;
     }
-    k == 2
+    k == INT64
 }
 
 // The type that an operator of one operand gives, 0 where it takes none: 19 neg, 20 not, 21 conv.i4, 22 conv.i8, 23 conv.r8.
@@ -114,26 +112,26 @@ pub fn converts(g: u8, t: u8) -> u8
     ensures { λ r. ⌜ ((A : Ty) → byteOf A ≡ t → r ≡ givenBy (unaryOf (unaryBy g) (kind A))) ⌝ }
 {
     let k = kind_of(t);
-    if g == 19 {
+    if g == NEG {
         return k;
     }
-    if g == 23 {
-        if k == 1 {
-            return 3;
+    if g == CONV_R8 {
+        if k == INT32 {
+            return F;
         }
-        if k == 3 {
-            return 3;
+        if k == F {
+            return F;
         }
-        return 0;
+        return NULL;
     }
     if integer(k) {
-        if g == 20 {
+        if g == NOT {
             return k;
         }
-        if g == 21 {
-            return 1;
+        if g == CONV_I4 {
+            return INT32;
         }
-        return 2;
+        return INT64;
     }
-    0
+    NULL
 }

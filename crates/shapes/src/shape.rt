@@ -8,6 +8,13 @@ ghost use Rattle.model.specs.Tables.{eqTys};
 ghost use Rattle.model.specs.Check.{Shape};
 ghost use Rattle.shapes.specs.Pool.{pool, Fine, Shows};
 
+// How many numbers there are, that of the empty shape, and the first that is free.
+pub const SHAPES: u16 = 2048;
+
+pub const EMPTY: usize = 1;
+
+pub const FIRST: usize = 2;
+
 // What an instruction does to a shape: a fault, or 0 and the shape after it.
 pub struct After {
     pub fault: u8,
@@ -20,7 +27,7 @@ pub fn below(belows: &[u16; 2048], s: usize) -> usize
     requires { ⌜ s < 2048 ⌝ }
     ensures { λ r. ⌜ (r < 2048) × (r ≡ getD (now (belows .entry)) s 0 % 2048) ⌝ }
 {
-    (belows[s] % 2048) as usize
+    (belows[s] % SHAPES) as usize
 }
 
 // A new shape, with a type on top of a shape.
@@ -34,7 +41,9 @@ pub fn put(
     h: u8,
 ) -> After
     requires { ⌜ made < 2048 ⌝ ∗ ⌜ s < 2048 ⌝ }
-    ensures { λ r. ⌜ (r .fault ≡ 0) × (r .shape ≡ made) × (r .made ≡ made + 1) ⌝ ∗ ⌜ (now (tops .exit) ≡ set (now (tops .entry)) made t) × (now (belows .exit) ≡ set (now (belows .entry)) made s) × (now (heights .exit) ≡ set (now (heights .entry)) made h) ⌝ }
+    ensures { λ r. ⌜ (r .fault ≡ 0) × (r .shape ≡ made) × (r .made ≡ made + 1) ⌝
+        ∗ ⌜ (now (tops .exit) ≡ set (now (tops .entry)) made t) × (now (belows .exit) ≡ set (now (belows .entry)) made s) × (now (heights .exit) ≡ set
+        (now (heights .entry)) made h) ⌝ }
 {
     tops[made] = t;
     belows[made] = s as u16;
@@ -52,7 +61,7 @@ pub fn fault(number: u8, made: usize) -> After
 {
     After {
         fault: number,
-        shape: 1,
+        shape: EMPTY,
         made,
     }
 }
@@ -66,7 +75,9 @@ pub fn same(
     b: usize,
 ) -> bool
     requires { ⌜ a < 2048 ⌝ ∗ ⌜ b < 2048 ⌝ }
-    ensures { λ r. ⌜ ((n : ℕ) (A B : Shape) → Fine (pool (now (tops .entry)) (now (belows .entry)) (now (heights .entry)) n) → Shows (pool (now (tops .entry)) (now (belows .entry)) (now (heights .entry)) n) A a → Shows (pool (now (tops .entry)) (now (belows .entry)) (now (heights .entry)) n) B b → r ≡ eqTys A B) ⌝ }
+    ensures { λ r. ⌜ ((n : ℕ) (A B : Shape) → Fine (pool (now (tops .entry)) (now (belows .entry)) (now (heights .entry)) n) →
+        Shows (pool (now (tops .entry)) (now (belows .entry)) (now (heights .entry)) n) A a →
+        Shows (pool (now (tops .entry)) (now (belows .entry)) (now (heights .entry)) n) B b → r ≡ eqTys A B) ⌝ }
 {
     if heights[a] != heights[b] {
         return false;

@@ -4,15 +4,14 @@ use libc::STDIN_FILENO;
 use libc::STDOUT_FILENO;
 
 // The first n bytes of a line are written.
-fn say(line: [u8; 128], n: usize) {
-    let whole: &[u8] = &line;
-    io::write_all(STDOUT_FILENO, part(whole, 0, n));
+fn say(line: &[u8; 128], n: usize) {
+    io::write_all(STDOUT_FILENO, part(line, 0, n));
 }
 
 fn main() {
     let mut space = io::large_buffer();
     let n = io::read_full(STDIN_FILENO, &mut space);
     let mut out = [0u8; 128];
-    let k = turning::turn(&space[..n], &mut out);
-    say(out, k);
+    let k = turn_line::turn(&space[..n], &mut out);
+    say(&out, k);
 }

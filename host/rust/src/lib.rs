@@ -1,4 +1,4 @@
-//! The check and the run of a module, over the proved functions of libloitsupar.a, which is for x86-64 Linux.
+//! The check of a module, what it found, and the run, over the proved functions of libloitsupar.a, which is for x86-64 Linux.
 //!
 //! The functions here are safe: a reference is never null and a `&mut` overlaps nothing, which is all that the library asks of its host.
 
@@ -8,14 +8,26 @@ unsafe extern "C" {
         tables: *const u8, tables_length: usize, code: *const u8, code_length: usize, arguments: *const u64, arguments_length: usize,
         budget: u64, answer: *mut u64, answer_cells: usize, state: *mut u64, state_cells: usize,
     ) -> u32;
+    fn loitsupar_tell(
+        tables: *const u8, tables_length: usize, code: *const u8, code_length: usize, row: u64, offset: u64, fault: *mut u64, fault_cells: usize,
+        shape: *mut u64, shape_cells: usize,
+    ) -> u32;
 }
 
 const FAULT_CELLS: usize = 3;
 const ANSWER_CELLS: usize = 6;
 const STATE_CELLS: usize = 5314;
+const MOST_STACK: usize = 32;
+const TYPES: usize = 2; // where the types begin in a shape, behind whether an instruction starts there and the depth
+const SHAPE_CELLS: usize = TYPES + MOST_STACK;
 const LENGTH_BYTES: usize = 2;
 const MOST_TABLES: usize = 8192;
 const MOST_CODE: usize = 32768;
+
+const INT32: u64 = 1;
+const INT64: u64 = 2;
+const F: u64 = 3;
+const CLASS: u64 = 32; // the type of a class is this and its row
 
 const TOO_LONG: u64 = 1;
 const CUT_SHORT: u64 = 9;
@@ -37,7 +49,17 @@ pub enum Value {
     F(f64),
 }
 
-/// How a run ended: 0 where it finished, and the endings of document 01 otherwise.
+/// The type of a value on the stack, as the check found it; a class by its row.
+#[derive(Clone, Copy, Debug, PartialEq, Eq)]
+pub enum Type {
+    Null,
+    Int32,
+    Int64,
+    F,
+    Class(u64),
+}
+
+/// How a run ended: 0 where it finished, and the endings of document 01 otherwise. A refusal has no method, no steps and no value.
 #[derive(Clone, Debug, PartialEq)]
 pub struct Answer {
     pub ending: u64,
@@ -47,7 +69,7 @@ pub struct Answer {
     pub value: Value,
 }
 
-/// The cells of the state that a run reached, in the order of loitsupar_state in loitsupar.h; all 0 after a refusal.
+/// The cells of the state that a run reached, in the order of loitsupar_state in loitsupar.h; all 0 after a refusal. An int32 has its sign in all 64 bits.
 pub type State = Box<[u64]>;
 
 /// The tables and the code of a module.
@@ -83,8 +105,24 @@ impl<'a> Module<'a> {
         unsafe {
             loitsupar_check(self.tables.as_ptr(), self.tables.len(), self.code.as_ptr(), self.code.len(), cells.as_mut_ptr(), cells.len());
         }
-        let [number, method, offset] = cells;
-        if number == 0 { Ok(()) } else { Err(Fault { number, method, offset }) }
+        passed(cells)
+    }
+
+    /// Loads the module, checks every method, and tells the types found on the stack before the instruction at an offset of the method at a row, the
+    /// bottom first; none where no instruction starts there. Rows count from 1.
+    pub fn tell(&self, row: u64, offset: u64) -> Result<Option<Vec<Type>>, Fault> {
+        let mut cells = [0; FAULT_CELLS];
+        let mut shape = [0; SHAPE_CELLS];
+        // SAFETY: as in `check`.
+        unsafe {
+            loitsupar_tell(
+                self.tables.as_ptr(), self.tables.len(), self.code.as_ptr(), self.code.len(), row, offset, cells.as_mut_ptr(), cells.len(),
+                shape.as_mut_ptr(), shape.len(),
+            );
+        }
+        passed(cells)?;
+        let [starts, depth, types @ ..] = shape;
+        Ok((starts == 1).then(|| types.iter().take(depth as usize).copied().map(type_of).collect()))
     }
 
     /// Loads the module and runs its entry, with a budget of at most 1,000,000 steps. It does not check.
@@ -103,12 +141,25 @@ impl<'a> Module<'a> {
     }
 }
 
+fn passed([number, method, offset]: [u64; FAULT_CELLS]) -> Result<(), Fault> {
+    if number == 0 { Ok(()) } else { Err(Fault { number, method, offset }) }
+}
+
 fn value(sort: u64, bits: u64) -> Value {
     match sort {
-        1 => Value::Int32(bits as u32 as i32),
-        2 => Value::Int64(bits as i64),
-        3 => Value::F(f64::from_bits(bits)),
+        INT32 => Value::Int32(bits as i32),
+        INT64 => Value::Int64(bits as i64),
+        F => Value::F(f64::from_bits(bits)),
         _ => Value::None,
+    }
+}
+
+fn type_of(cell: u64) -> Type {
+    match cell {
+        INT32 => Type::Int32,
+        INT64 => Type::Int64,
+        F => Type::F,
+        _ => cell.checked_sub(CLASS).map_or(Type::Null, Type::Class),
     }
 }
 

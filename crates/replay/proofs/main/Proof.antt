@@ -4,16 +4,22 @@ use Rattle.replay.proofs.main.Statement.{statement}
 use Rattle.replay.proofs.main.Tie as tie
 
 abbrev Inv-loop : tie.InvT-loop
-Inv-loop left₀ left = Unit {0}
+Inv-loop case₀ out₀ left₀ case out left = Unit {0}
 
 abbrev μ-loop : tie.MeasureT-loop
-μ-loop left₀ left = left
+μ-loop case₀ out₀ left₀ case out left = left
+
+slice-aggregate-case : tie.Need-slice-aggregate-case Inv-loop μ-loop
+slice-aggregate-case c = search needs
+
+slice-aggregate-out : tie.Need-slice-aggregate-out Inv-loop μ-loop
+slice-aggregate-out c = search needs
 
 loop-holds : tie.Need-loop-holds Inv-loop μ-loop
 loop-holds c = search needs
 
-case-requires : tie.Need-case-requires Inv-loop μ-loop
-case-requires c κs = search needs
+answered-requires : tie.Need-answered-requires Inv-loop μ-loop
+answered-requires c κs = search needs
 
 sub-left : tie.Need-sub-left Inv-loop μ-loop
 sub-left c = search needs
@@ -36,8 +42,10 @@ main-spec =
     (tie.spec
     Inv-loop
     μ-loop
+    slice-aggregate-case
+    slice-aggregate-out
     loop-holds
-    case-requires
+    answered-requires
     sub-left
     loop-less
     loop-again

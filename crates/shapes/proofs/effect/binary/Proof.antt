@@ -4,21 +4,13 @@ use Rattle.shapes.specs.Effects.{binaryEffect}
 use Rattle.shapes.specs.Pool.{Pool, pool}
 use mathlib.Core.List.{_∷_}
 use native.Mathlib.Omega.{arith}
-use mathlib.Core.Path.{_≡_, refl, sym, _∙_}
+use mathlib.Core.Path.{refl, sym, _∙_}
 use borrow.Author.Needs.{needs}
 use Rattle.shapes.proofs.effect.binary.Statement.{statement}
 use Rattle.shapes.proofs.effect.binary.Tie as tie
-use Rattle.shapes.proofs.effect.binary.Reads as reads
-use Rattle.shapes.proofs.effect.binary.Lts as lts
-use Rattle.shapes.proofs.fit.takes.Reads as takes-reads
-use Rattle.shapes.proofs.shape.below.Reads as below-reads
-use Rattle.shapes.proofs.shape.fault.Reads as fault-reads
 
--- begin
 abbrev P0 : tie.Start → Pool
 P0 c = pool (c .args .tops .now) (c .args .belows .now) (c .args .heights .now) (c .args .made)
-
--- end
 
 element-copy-out-if1 : tie.Need-element-copy-out-if1
 element-copy-out-if1 c = search needs
@@ -28,7 +20,13 @@ fault-requires c κs = search needs
 
 returns : tie.Need-returns
 returns c =
-    (search needs, λ f S w. refuses (P0 (c .before .before .before)) (c .fault .result) 13 (binaryEffect (c .before .before .before .args .which) S) (few-2 (P0 (c .before .before .before)) (binaryEffect (c .before .before .before .args .which)) (c .before .before .before .args .s) 13 (binary-few _) (binary-few-1 _) (c .before .if1 .taken) S w) (omega arith) (c .fault .ensures) f)
+    let start = c .before .before .before in
+    let the-if1 = c .before .if1 in (
+      search needs,
+      λ f S w. refuses (P0 start) (c .fault .result) 13 (binaryEffect (start .args .which) S)
+          (few-2 (P0 start) (binaryEffect (start .args .which)) (start .args .s) 13 (binary-few _) (binary-few-1 _) (the-if1 .taken) S w) (omega arith)
+          (c .fault .ensures) f,
+    )
 
 below-requires : tie.Need-below-requires
 below-requires c κs = search needs
@@ -43,27 +41,39 @@ takes-requires : tie.Need-takes-requires
 takes-requires c κs = search needs
 
 returns-2 : tie.Need-returns-2
-returns-2 c = (
-  search needs,
-  λ f S w.
-      let o = two (P0 (c .before .before .before .before .before .before .before)) S (c .before .before .before .before .before .before .before .args .s) f (c .before .before .before .before .before .if1 .left) w in
-      leaves (P0 (c .before .before .before .before .before .before .before)) (record { fault = 0; shape = c .before .before .before .before .below .result; made = c .before .before .before .before .before .before .before .args .made }) (o .next ∷ o .rest) (binaryEffect (c .before .before .before .before .before .before .before .args .which) S)
-      (binary-right _ (o .top) (o .next) S (o .rest) (o .is) (sym (c .if2 .taken) ∙ c .before .takes .ensures (o .next) (o .top) (o .next-byte _ (c .before .before .before .before .below .ensures .1)) (o .byte)))
-      refl refl (o .below _ (c .before .before .before .before .below .ensures .1)) f,
-)
+returns-2 c =
+    let start = c .before .before .before .before .before .before .before in
+    let the-if1 = c .before .before .before .before .before .if1 in
+    let the-below = c .before .before .before .before .below in
+    let the-takes = c .before .takes in (
+      search needs,
+      λ f S w.
+          let o = two (P0 start) S (start .args .s) f (the-if1 .left) w in
+          leaves (P0 start) (record { fault = 0; shape = the-below .result; made = start .args .made }) (o .next ∷ o .rest)
+          (binaryEffect (start .args .which) S)
+          (binary-right _ (o .top) (o .next) S (o .rest) (o .is)
+          (sym (c .if2 .taken) ∙ the-takes .ensures (o .next) (o .top) (o .next-byte _ (the-below .ensures .1)) (o .byte)))
+          refl refl (o .below _ (the-below .ensures .1)) f,
+    )
 
 fault-requires-2 : tie.Need-fault-requires-2
 fault-requires-2 c κs = search needs
 
 returns-3 : tie.Need-returns-3
-returns-3 c = (
-  search needs,
-  λ f S w.
-      let o = two (P0 (c .before .before .before .before .before .before .before .before)) S (c .before .before .before .before .before .before .before .before .args .s) f (c .before .before .before .before .before .before .if1 .left) w in
-      refuses (P0 (c .before .before .before .before .before .before .before .before)) (c .fault2 .result) 15 (binaryEffect (c .before .before .before .before .before .before .before .before .args .which) S)
-      (binary-wrong _ (o .top) (o .next) S (o .rest) (o .is) (sym (c .before .if2 .left) ∙ c .before .before .takes .ensures (o .next) (o .top) (o .next-byte _ (c .before .before .before .before .before .below .ensures .1)) (o .byte)))
-      (omega arith) (c .fault2 .ensures) f,
-)
+returns-3 c =
+    let start = c .before .before .before .before .before .before .before .before in
+    let the-if1 = c .before .before .before .before .before .before .if1 in
+    let the-below = c .before .before .before .before .before .below in
+    let the-takes = c .before .before .takes in
+    let the-if2 = c .before .if2 in (
+      search needs,
+      λ f S w.
+          let o = two (P0 start) S (start .args .s) f (the-if1 .left) w in
+          refuses (P0 start) (c .fault2 .result) 15 (binaryEffect (start .args .which) S)
+          (binary-wrong _ (o .top) (o .next) S (o .rest) (o .is)
+          (sym (the-if2 .left) ∙ the-takes .ensures (o .next) (o .top) (o .next-byte _ (the-below .ensures .1)) (o .byte)))
+          (omega arith) (c .fault2 .ensures) f,
+    )
 
 pub binary-spec : {M : Type 1} → statement M
 binary-spec =

@@ -4,20 +4,12 @@ use Rattle.shapes.specs.Pool.{Pool, pool}
 use Rattle.model.specs.Check.{plainEffect, pushes}
 use Rattle.model.specs.Code.{dup}
 use native.Mathlib.Omega.{arith}
-use mathlib.Core.Path.{_≡_, refl}
 use borrow.Author.Needs.{needs}
 use Rattle.shapes.proofs.effect.dup.Statement.{statement}
 use Rattle.shapes.proofs.effect.dup.Tie as tie
-use Rattle.shapes.proofs.effect.dup.Reads as reads
-use Rattle.shapes.proofs.effect.dup.Lts as lts
-use Rattle.shapes.proofs.effect.push.Reads as push-reads
-use Rattle.shapes.proofs.shape.fault.Reads as fault-reads
 
--- begin
 abbrev P0 : tie.Start → Pool
 P0 c = pool (c .args .tops .now) (c .args .belows .now) (c .args .heights .now) (c .args .made)
-
--- end
 
 element-copy-out-if1 : tie.Need-element-copy-out-if1
 element-copy-out-if1 c = search needs
@@ -27,7 +19,12 @@ fault-requires c κs = search needs
 
 returns : tie.Need-returns
 returns c =
-    (search needs, λ M m e f S w. refuses (P0 (c .before .before .before)) (c .fault .result) 13 (plainEffect M m dup S) (few-1 (P0 (c .before .before .before)) (plainEffect M m dup) (c .before .before .before .args .s) 13 (dup-few M m) (c .before .if1 .taken) S w) (omega arith) (c .fault .ensures) f)
+    let start = c .before .before .before in
+    let the-if1 = c .before .if1 in (
+      search needs,
+      λ M m e f S w. refuses (P0 start) (c .fault .result) 13 (plainEffect M m dup S)
+          (few-1 (P0 start) (plainEffect M m dup) (start .args .s) 13 (dup-few M m) (the-if1 .taken) S w) (omega arith) (c .fault .ensures) f,
+    )
 
 element-copy-out-t : tie.Need-element-copy-out-t
 element-copy-out-t c = search needs
@@ -36,12 +33,14 @@ push-requires : tie.Need-push-requires
 push-requires c κs = search needs
 
 returns-2 : tie.Need-returns-2
-returns-2 c = (
-  c .push .ensures .0,
-  λ M m e f S w.
-      let o = one (P0 (c .before .before .before .before .before .before .before)) S (c .before .before .before .before .before .before .before .args .s) f (c .before .before .before .before .before .if1 .left) w in
-      told _ _ _ (plainEffect M m dup S) (pushes m (o .top) S) (dup-is M m S (o .rest) (o .top) (o .is)) (c .push .ensures .1 m (o .top) e (o .byte) f S w),
-)
+returns-2 c =
+    let start = c .before .before .before .before .before .before .before in
+    let the-if1 = c .before .before .before .before .before .if1 in (
+      c .push .ensures .0,
+      λ M m e f S w.
+          let o = one (P0 start) S (start .args .s) f (the-if1 .left) w in
+          told _ _ _ (plainEffect M m dup S) (pushes m (o .top) S) (dup-is M m S (o .rest) (o .top) (o .is)) (c .push .ensures .1 m (o .top) e (o .byte) f S w),
+    )
 
 pub dup-spec : {M : Type 1} → statement M
 dup-spec =

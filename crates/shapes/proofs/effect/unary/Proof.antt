@@ -6,16 +6,10 @@ use Rattle.model.specs.Check.{plainEffect}
 use Rattle.model.specs.Operators.{kind, unaryOf}
 use Rattle.model.specs.Code.{unary}
 use native.Mathlib.Omega.{arith}
-use mathlib.Core.Path.{_≡_, refl, sym, _∙_}
+use mathlib.Core.Path.{sym, _∙_}
 use borrow.Author.Needs.{needs}
 use Rattle.shapes.proofs.effect.unary.Statement.{statement}
 use Rattle.shapes.proofs.effect.unary.Tie as tie
-use Rattle.shapes.proofs.effect.unary.Reads as reads
-use Rattle.shapes.proofs.effect.unary.Lts as lts
-use Rattle.shapes.proofs.fit.converts.Reads as converts-reads
-use Rattle.shapes.proofs.shape.below.Reads as below-reads
-use Rattle.shapes.proofs.shape.fault.Reads as fault-reads
-use Rattle.shapes.proofs.shape.put.Reads as put-reads
 
 abbrev P0 : tie.Start → Pool
 P0 c = pool (c .args .tops .now) (c .args .belows .now) (c .args .heights .now) (c .args .made)
@@ -34,18 +28,30 @@ fault-requires c κs = search needs
 
 returns : tie.Need-returns
 returns c =
-    (search needs, λ M m f S w. refuses (P0 (c .before .before .before .before .before)) (c .fault .result) 13 (plainEffect M m (unary (unaryBy (c .before .before .before .before .before .args .g))) S) (few-1 (P0 (c .before .before .before .before .before)) (plainEffect M m (unary (unaryBy (c .before .before .before .before .before .args .g)))) (c .before .before .before .before .before .args .s) 13 (unary-few M m (unaryBy (c .before .before .before .before .before .args .g))) (c .before .if1 .taken) S w) (omega arith) (c .fault .ensures) f)
+    let start = c .before .before .before .before .before in
+    let the-if1 = c .before .if1 in (
+      search needs,
+      λ M m f S w. refuses (P0 start) (c .fault .result) 13 (plainEffect M m (unary (unaryBy (start .args .g))) S)
+          (few-1 (P0 start) (plainEffect M m (unary (unaryBy (start .args .g)))) (start .args .s) 13 (unary-few M m (unaryBy (start .args .g)))
+          (the-if1 .taken) S w) (omega arith) (c .fault .ensures) f,
+    )
 
 fault-requires-2 : tie.Need-fault-requires-2
 fault-requires-2 c κs = search needs
 
 returns-2 : tie.Need-returns-2
-returns-2 c = (
-  search needs,
-  λ M m f S w.
-      let o = one (P0 (c .before .before .before .before .before .before)) S (c .before .before .before .before .before .before .args .s) f (c .before .before .if1 .left) w in
-      refuses (P0 (c .before .before .before .before .before .before)) (c .fault2 .result) 15 (plainEffect M m (unary (unaryBy (c .before .before .before .before .before .before .args .g))) S) (unary-wrong M m (unaryBy (c .before .before .before .before .before .before .args .g)) (o .top) S (o .rest) (o .is) (sym (c .before .before .before .converts .ensures (o .top) (o .byte)) ∙ c .before .if2 .taken)) (omega arith) (c .fault2 .ensures) f,
-)
+returns-2 c =
+    let start = c .before .before .before .before .before .before in
+    let the-converts = c .before .before .before .converts in
+    let the-if1 = c .before .before .if1 in
+    let the-if2 = c .before .if2 in (
+      search needs,
+      λ M m f S w.
+          let o = one (P0 start) S (start .args .s) f (the-if1 .left) w in
+          refuses (P0 start) (c .fault2 .result) 15 (plainEffect M m (unary (unaryBy (start .args .g))) S)
+          (unary-wrong M m (unaryBy (start .args .g)) (o .top) S (o .rest) (o .is) (sym (the-converts .ensures (o .top) (o .byte)) ∙ the-if2 .taken))
+          (omega arith) (c .fault2 .ensures) f,
+    )
 
 below-requires : tie.Need-below-requires
 below-requires c κs = search needs
@@ -54,15 +60,21 @@ put-requires : tie.Need-put-requires
 put-requires c κs = search needs
 
 returns-3 : tie.Need-returns-3
-returns-3 c = (
-  search needs,
-  λ M m f S w.
-      let o = one (P0 (c .before .before .before .before .before .before .before .before .before .before .before)) S (c .before .before .before .before .before .before .before .before .before .before .before .args .s) f (c .before .before .before .before .before .before .before .if1 .left) w in
-      let u = unaryBy (c .before .before .before .before .before .before .before .before .before .before .before .args .g) in
-      brings (P0 (c .before .before .before .before .before .before .before .before .before .before .before)) (c .put .result) _ _ _ (numeric (givenBy (unaryOf u (kind (o .top))))) (o .rest) (plainEffect M m (unary u) S) _ _ _
-      (unary-right M m u (o .top) S (o .rest) (o .is) (λ z. c .before .before .before .before .before .before .if2 .left (c .before .before .before .before .before .before .before .before .converts .ensures (o .top) (o .byte) ∙ z)))
-      (search needs) (c .put .ensures) (unary-byte u (kind (o .top)) (λ z. c .before .before .before .before .before .before .if2 .left (c .before .before .before .before .before .before .before .before .converts .ensures (o .top) (o .byte) ∙ z)) ∙ sym (c .before .before .before .before .before .before .before .before .converts .ensures (o .top) (o .byte))) (o .height) (o .below _ (c .before .before .before .before .below .ensures .1)) f,
-)
+returns-3 c =
+    let start = c .before .before .before .before .before .before .before .before .before .before .before in
+    let the-converts = c .before .before .before .before .before .before .before .before .converts in
+    let the-if1 = c .before .before .before .before .before .before .before .if1 in
+    let the-if2 = c .before .before .before .before .before .before .if2 in
+    let the-below = c .before .before .before .before .below in (
+      search needs,
+      λ M m f S w.
+          let o = one (P0 start) S (start .args .s) f (the-if1 .left) w in
+          let u = unaryBy (start .args .g) in
+          brings (P0 start) (c .put .result) _ _ _ (numeric (givenBy (unaryOf u (kind (o .top))))) (o .rest) (plainEffect M m (unary u) S) _ _ _
+          (unary-right M m u (o .top) S (o .rest) (o .is) (λ z. the-if2 .left (the-converts .ensures (o .top) (o .byte) ∙ z)))
+          (search needs) (c .put .ensures) (unary-byte u (kind (o .top)) (λ z. the-if2 .left (the-converts .ensures (o .top) (o .byte) ∙ z)) ∙ sym
+          (the-converts .ensures (o .top) (o .byte))) (o .height) (o .below _ (the-below .ensures .1)) f,
+    )
 
 pub unary-spec : {M : Type 1} → statement M
 unary-spec =

@@ -1,12 +1,9 @@
 use Rattle.model.specs.Tables.{byteOf}
 use native.Mathlib.Omega.{arith}
-use mathlib.Core.Path.{_≡_}
-use Prim.Native.Nat.{_+_, _<_, _≤_}
+use Prim.Native.Nat.{_≤_}
 use borrow.Author.Needs.{needs}
 use Rattle.shapes.proofs.fit.class_byte.Statement.{statement}
 use Rattle.shapes.proofs.fit.class_byte.Tie as tie
-use Rattle.shapes.proofs.fit.class_byte.Reads as reads
-use Rattle.shapes.proofs.fit.class_byte.Lts as lts
 
 add-result : tie.Need-add-result
 add-result c = search needs

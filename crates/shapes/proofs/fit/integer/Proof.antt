@@ -1,10 +1,7 @@
-use Rattle.model.specs.Operators.{kindNumber}
-use mathlib.Core.Path.{_≡_, sym, _∙_}
+use mathlib.Core.Path.{sym, _∙_}
 use Rattle.shapes.proofs.Bytes.{integer-32, integer-other}
 use Rattle.shapes.proofs.fit.integer.Statement.{statement}
 use Rattle.shapes.proofs.fit.integer.Tie as tie
-use Rattle.shapes.proofs.fit.integer.Reads as reads
-use Rattle.shapes.proofs.fit.integer.Lts as lts
 
 returns : tie.Need-returns
 returns c =

@@ -1,0 +1,2 @@
+-- What the contracts of calls and returns speak of.
+pub mod Lent

@@ -1,0 +1,2 @@
+-- Laws of the ancestor test.
+pub mod Climb

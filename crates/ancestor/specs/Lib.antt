@@ -1,0 +1,2 @@
+-- What the array of parents holds.
+pub mod Parents

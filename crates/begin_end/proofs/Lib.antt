@@ -1,0 +1,5 @@
+pub mod Changing
+pub mod Tidied
+pub mod Laying
+pub mod Admitting
+pub mod Started

@@ -1,0 +1,3 @@
+-- What is proved once and cited.
+pub mod Order
+pub mod Going

@@ -1,0 +1,2 @@
+-- What the contracts of a run speak of.
+pub mod Running

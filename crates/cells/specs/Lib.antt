@@ -1,4 +1,0 @@
-pub mod View
-pub mod Order
-pub mod Cells
-pub mod Layout

@@ -1,0 +1,3 @@
+pub mod Bounded
+pub mod Answers
+pub mod Told

@@ -1,0 +1,2 @@
+-- What the contract of a step that changes the frame speaks of.
+pub mod Crossing

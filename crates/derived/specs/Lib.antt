@@ -1,3 +1,0 @@
--- What the contracts of the tables speak of.
-pub mod Rows
-pub mod Told

@@ -1,0 +1,25 @@
+-- A run on the arrays is the model's run.
+pub mod Lists
+pub mod Seen
+pub mod Rows
+pub mod Slots
+pub mod Frames
+pub mod Heap
+pub mod Sim
+pub mod Suits
+pub mod Values
+pub mod References
+pub mod Calls
+pub mod Returns
+pub mod Dispatch
+pub mod Making
+pub mod Fields
+pub mod Runs
+pub mod Constants
+pub mod Ranges
+pub mod Bounds
+pub mod Loads
+pub mod Begins
+pub mod Tidy
+pub mod Ends
+pub mod Admits

@@ -1,0 +1,1 @@
+// A run on the arrays is the model's run: the proofs stand in proofs/; there is no code here.

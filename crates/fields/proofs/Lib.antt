@@ -1,0 +1,6 @@
+-- What is proved once and cited.
+pub mod Naming
+pub mod Acting
+pub mod Casting
+pub mod Started
+pub mod Reaching

@@ -1,0 +1,39 @@
+use borrow.Author.Needs.{needs}
+use Rattle.state.specs.Work.{withHeap}
+use Rattle.in_frame.proofs.Answers.{instead}
+use Rattle.fields.proofs.Acting.{reaches, static-refused, ldsfld-does, stsfld-does}
+use Rattle.fields.proofs.members.static_field.Statement.{statement}
+use Rattle.fields.proofs.members.static_field.Tie as tie
+
+field-named-requires : tie.Need-field-named-requires
+field-named-requires c κs = search needs
+
+ends-requires : tie.Need-ends-requires
+ends-requires c κs = search needs
+
+returns : tie.Need-returns
+returns c = rw (c .ends .ensures) (search needs, λ P s l. static-refused P _ _ _ l (c .before .before .before .before .before .pre .1 .0 .0) (c .before .before .before .before .before .args .store) (c .before .before .before .before .before .pre .1 .1 .0) (c .before .before .before .field-named .ensures) (c .before .if1 .taken))
+
+stsfld-requires : tie.Need-stsfld-requires
+stsfld-requires c κs = (reaches (c .before .before .before .before .before .before .before .before .before .pre .0) (c .before .before .before .before .before .before .before .field-named .ensures .few), c .before .before .before .before .before .before .before .before .before .pre .1 .1 .1)
+
+returns-2 : tie.Need-returns-2
+returns-2 c = (c .stsfld .ensures .0, λ P s l. instead (stsfld-does P _ _ _ l (c .before .before .before .before .before .before .before .before .before .before .pre .1 .0 .0) (c .before .before .before .before .before .before .before .before .before .before .pre .1 .1 .0) (c .before .before .before .before .before .before .before .before .field-named .ensures) (c .before .before .before .before .before .before .if1 .left) (c .before .before .before .before .before .if2 .taken)) (c .stsfld .ensures .1 s))
+
+ldsfld-requires : tie.Need-ldsfld-requires
+ldsfld-requires c κs = reaches (c .before .before .before .before .before .before .before .before .before .pre .0) (c .before .before .before .before .before .before .before .field-named .ensures .few)
+
+returns-3 : tie.Need-returns-3
+returns-3 c = (c .ldsfld .ensures .0, λ P s l. instead (ldsfld-does P _ _ _ l (c .before .before .before .before .before .before .before .before .before .before .pre .1 .0 .0) (c .before .before .before .before .before .before .before .before .before .before .pre .1 .1 .0) (c .before .before .before .before .before .before .before .before .field-named .ensures) (c .before .before .before .before .before .before .if1 .left) (c .before .before .before .before .before .if2 .left)) (c .ldsfld .ensures .1 (withHeap s (c .before .before .before .before .before .before .before .before .before .before .args .classes .now) (s .heap))))
+
+pub static-field-spec : {M : Type 1} → statement M
+static-field-spec =
+    tie.close
+    (tie.spec
+    field-named-requires
+    ends-requires
+    returns
+    stsfld-requires
+    returns-2
+    ldsfld-requires
+    returns-3)

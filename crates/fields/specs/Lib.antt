@@ -1,0 +1,3 @@
+-- What the contracts of fields and casts speak of.
+pub mod Named
+pub mod Members

@@ -1,3 +1,0 @@
--- What the contracts of calls, returns and fields speak of.
-pub mod Lent
-pub mod Ranges

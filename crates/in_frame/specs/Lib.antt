@@ -1,0 +1,2 @@
+-- What the contracts of a step within its frame speak of.
+pub mod Tries

@@ -1,0 +1,2 @@
+-- What the arrays of a loaded module hold.
+pub mod Holds

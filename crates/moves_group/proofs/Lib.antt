@@ -1,0 +1,3 @@
+-- Laws that the proof of the group cites.
+pub mod Opcodes
+pub mod Arms

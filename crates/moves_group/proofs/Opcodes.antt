@@ -1,0 +1,70 @@
+-- The forms of the opcodes.
+use Prim.Native.Nat.{ℕ, _+_}
+use mathlib.Core.Path.{_≡_, refl}
+use mathlib.Core.Option.{some}
+use Rattle.model.specs.Answer.{pick}
+use Rattle.model.specs.Tables.{int32, null}
+use Rattle.model.specs.Code.{Ins, Jump, plain, nop, pop, dup, ldc, ldarg, ldloc, stloc, Form, bare, near, far, _is_, op, un, const, branches, loads, operators, objects, instructions, formOf}
+use Rattle.operators.specs.Gives.{relationBy, jumpBy}
+
+-- the opcode b is an instruction by itself
+abbrev pub Bare : ℕ → Ins → Type 0
+Bare b i = formOf instructions b ≡ some (bare i)
+
+-- from b on, an opcode for each number below 4
+abbrev Fours : ℕ → (ℕ → Ins) → Type 0
+Fours b f = Bare b (f 0) × Bare (b + 1) (f 1) × Bare (b + 2) (f 2) × Bare (b + 3) (f 3)
+
+pub ldargs : Fours 0x02 ldarg
+unfolding pick _is_ op un const branches loads operators objects instructions formOf
+ldargs = (refl, refl, refl, refl)
+
+pub ldlocs : Fours 0x06 ldloc
+unfolding pick _is_ op un const branches loads operators objects instructions formOf
+ldlocs = (refl, refl, refl, refl)
+
+pub stlocs : Fours 0x0A stloc
+unfolding pick _is_ op un const branches loads operators objects instructions formOf
+stlocs = (refl, refl, refl, refl)
+
+-- an int32 constant
+abbrev Int : ℕ → ℕ → Type 0
+Int b n = Bare b (plain (ldc int32 n))
+
+pub ints : Int 0x15 0xFFFFFFFF × Int 0x16 0 × Int 0x17 1 × Int 0x18 2 × Int 0x19 3 × Int 0x1A 4 × Int 0x1B 5 × Int 0x1C 6 × Int 0x1D 7 × Int 0x1E 8
+unfolding pick _is_ op un const branches loads operators objects instructions formOf
+ints = (refl, refl, refl, refl, refl, refl, refl, refl, refl, refl)
+
+pub null-form : Bare 0x14 (plain (ldc null 0))
+unfolding pick _is_ op un const branches loads operators objects instructions formOf
+null-form = refl
+
+pub nop-form : Bare 0x00 (plain nop)
+unfolding pick _is_ op un const branches loads operators objects instructions formOf
+nop-form = refl
+
+pub dup-form : Bare 0x25 (plain dup)
+unfolding pick _is_ op un const branches loads operators objects instructions formOf
+dup-form = refl
+
+pub pop-form : Bare 0x26 (plain pop)
+unfolding pick _is_ op un const branches loads operators objects instructions formOf
+pop-form = refl
+
+-- ---- The branches, by the form of their distance and from an opcode on
+
+abbrev Branch : (Jump → Form) → ℕ → ℕ → Type 0
+Branch f b how = formOf instructions b ≡ some (f (jumpBy how))
+
+abbrev Branches : (Jump → Form) → ℕ → Type 0
+Branches f b =
+    Branch f b 0 × Branch f (b + 1) 2 × Branch f (b + 2) 1 × Branch f (b + 3) 3 × Branch f (b + 4) 8 × Branch f (b + 5) 7 × Branch f (b + 6) 6
+    × Branch f (b + 7) 5 × Branch f (b + 8) 4 × Branch f (b + 9) 12 × Branch f (b + 10) 11 × Branch f (b + 11) 10 × Branch f (b + 12) 9
+
+pub nears : Branches near 0x2B
+unfolding pick _is_ op un const branches loads operators objects instructions formOf relationBy jumpBy
+nears = (refl, refl, refl, refl, refl, refl, refl, refl, refl, refl, refl, refl, refl)
+
+pub fars : Branches far 0x38
+unfolding pick _is_ op un const branches loads operators objects instructions formOf relationBy jumpBy
+fars = (refl, refl, refl, refl, refl, refl, refl, refl, refl, refl, refl, refl, refl)

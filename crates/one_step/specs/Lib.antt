@@ -1,0 +1,2 @@
+-- What the contract of a step speaks of.
+pub mod Told

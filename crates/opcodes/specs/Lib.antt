@@ -1,2 +1,0 @@
--- What the contracts of a step by its opcode speak of.
-pub mod Tries

@@ -1,0 +1,2 @@
+-- What the contracts of the operators speak of.
+pub mod Gives

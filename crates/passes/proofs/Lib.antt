@@ -1,0 +1,3 @@
+-- What is proved beside the functions.
+pub mod Passes
+pub mod Loops

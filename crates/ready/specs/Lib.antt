@@ -1,2 +1,0 @@
--- What the contracts of settled tables speak of.
-pub mod Settled

@@ -1,0 +1,2 @@
+-- What the contract of the group speaks of.
+pub mod Rest

@@ -1,0 +1,2 @@
+-- What the contract of a stay speaks of.
+pub mod Stays

@@ -1,4 +1,0 @@
-// The beginning of a run and its end: arguments are admitted and laid in the first cells, and the state that is handed back has every dead cell 0.
-pub mod admission; // which arguments the entry takes
-pub mod beginning; // the first cells
-pub mod ending; // the state that is handed back

@@ -1,3 +1,0 @@
--- Laws that the proofs of the groups cite.
-pub mod Tokens
-pub mod Returned

@@ -1,2 +1,0 @@
--- What the contracts of casts, fields, calls and returns speak of.
-pub mod Opcodes
