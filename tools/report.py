@@ -22,6 +22,7 @@ from housetext.meanings import MEANINGS
 from housetext.names import read_names
 from housetext.records import LARGEST_INPUT
 from housetext.second_opinion import second_opinion
+from housetext.shaping import proved_shapes
 from modules import read_text
 from reporting.flow import Flow
 from reporting.found import found_in
@@ -42,19 +43,20 @@ def text_of_input(name, names_file):
 
 
 def report_of(name, text, arguments, budget, most, program):
-    """The Report of a text; `program` takes the name of a program and its input, and is None where no run is wanted."""
+    """The Report of a text; `program` takes the name of a program and its input, and is None where no proved program is to be asked."""
     assembled = assemble(text)
     source = Source(assembled.data, assembled.names, assembled.record_lines, assembled.code_lines)
     opinion = second_opinion(source.tables, source.code)
     rows = range(1, len(source.methods) + 1)
-    methods = [Method(source, row, Flow(source, row), found_in(source, opinion, row)) for row in rows]
-    line, run, why = None, None, "No run is shown: it was not asked for."
+    shapes, line, run, why = None, None, None, "No run is shown: it was not asked for."
     if program is not None:
         try:
+            shapes = proved_shapes(source, rows, program)
             line, run, why = said_of(assembled.data, arguments, budget, most, program)
         except Trouble as trouble:
             why = f"No run is shown: {trouble}."
-    return Report(name, text, source, opinion, methods, line, run, why)
+    methods = [Method(source, row, Flow(source, row), found_in(source, opinion, row, shapes and shapes[row])) for row in rows]
+    return Report(name, text, source, opinion, methods, line, run, why, shapes is not None)
 
 
 def said_of(data, arguments, budget, most, program):

@@ -2,7 +2,7 @@
 """tests.py [--turn PROGRAM]: tests of asm, dis, explain, shapes and answer, and of the lines that examples/EXPECTED promises.
 
 The promised lines are compared with the second implementation where it is there, and with PROGRAM, a `turn` that reads standard input,
-and the proved `replay` where one is named.
+and the proved `replay` where one is named. Then the shapes of the proved `tell` are compared with those of the second implementation too.
 """
 
 import itertools
@@ -17,14 +17,15 @@ sys.dont_write_bytecode = True
 
 from cases import LENGTH_BYTES, case_of, read_cases, replay_lines
 from cases import read_answer as read_replayed
-from common import Trouble, parser_for, started
+from common import Trouble, parser_for, proved, started
 from housetext.assemble import assemble
 from housetext.disassemble import disassemble
 from housetext.explaining import Source, explain, read_answer
 from housetext.instructions import BY_MNEMONIC
 from housetext.meanings import MEANINGS
 from housetext.names import Names, read_names, write_names
-from housetext.shaping import shape_lines
+from housetext.second_opinion import second_opinion
+from housetext.shaping import BY_SECOND, NULL, shape_lines
 from housetext.words import TextErrors
 
 TOOLS = pathlib.Path(__file__).resolve().parent
@@ -34,6 +35,7 @@ VECTORS = sorted((MAIN / "vectors").glob("*.bin"))
 SECOND = MAIN / "second"
 SEED = 20220
 SHAPED = 300  # modules of the vectors whose shapes are asked for
+PROVED_SHAPED = 40  # and of the proved program too
 
 
 class Tally:
@@ -363,7 +365,32 @@ def test_expected(tally, turn):
 
 def second_program(name, data):
     """What a program of the second implementation prints for an input."""
+    if name == "tell":
+        return second_told(data)
     return subprocess.run([sys.executable, "-B", SECOND / f"{name}.py"], input=data, stdout=subprocess.PIPE).stdout
+
+
+def second_told(data):
+    """What `tell` prints for an input, by the shapes that the second implementation finds."""
+    second_opinion(b"", b"")  # brings the modules of the second implementation
+    tables, check, operators = (sys.modules[name] for name in ("tables", "check", "operators"))
+
+    def number(at):
+        return int.from_bytes(data[at:at + LENGTH_BYTES], "little")
+
+    code_at = LENGTH_BYTES + number(0) + LENGTH_BYTES
+    places_at = code_at + number(code_at - LENGTH_BYTES)
+    loaded = tables.load(data[LENGTH_BYTES:code_at - LENGTH_BYTES], data[code_at:places_at])
+    fault = (loaded.number, 0, loaded.place) if loaded.number else check.check(loaded.module)
+    shapes = {}
+    for row in range(1, 1 if fault[0] else loaded.module.method_count + 1):
+        shapes |= {(row, instruction.offset): types for instruction, types in check.shapes(loaded.module, row)}
+
+    def line(place):
+        types = [NULL if type == operators.NULL else type for type in shapes.get(place, [])]
+        return " ".join(map(str, [*fault, int(place in shapes), len(types), *types])) + "\n"
+
+    return "".join(line((number(at), number(at + LENGTH_BYTES))) for at in range(places_at, len(data), 2 * LENGTH_BYTES)).encode()
 
 
 def second_says(data, how):
@@ -395,21 +422,52 @@ def test_explain(tally):
     tally.holds("no method 9" in explained("loop.turn", "31 9 1 5 -")[-1], "a method that isn't there")
 
 
+def shaped(name, row, program=second_program):
+    """The lines of the shapes of an example."""
+    data = assemble((MAIN / "examples" / name).read_text(encoding="utf-8"))
+    return shape_lines(Source(data.data, data.names, data.record_lines, data.code_lines), row, program)
+
+
 def test_shapes(tally):
     """Depth and types before each instruction, in an example and, without a failure, in the modules of the vectors."""
     if not SECOND.is_dir():
         return
-    said = run_tool("shapes", MAIN / "examples/keva-too-many.turn", "4").stdout.decode().splitlines()
-    tally.holds(said[0] == "Method 4: Bot.turn." and said[1].split() == ["0", "0", "ldc.i4.7"], "the first instruction has an empty stack")
+    said = shaped("keva-too-many.turn", 4)
+    tally.holds(said[0] == f"Method 4: Bot.turn{BY_SECOND}." and said[1].split() == ["0", "0", "ldc.i4.7"], "the first instruction has an empty stack")
     tally.holds("    43   3  bgt.s ask                       int32, int32, int32" in said, "depth and types before an instruction")
     tally.holds("     6   1  ldc.i4.7                        Place" in said, "a class by its name")
     tally.holds(said[-1] == "Number 15 at offset 47. Wanted: exactly one value, that fits int32.", "the fault where the shapes end")
-    tally.holds(run_tool("shapes", MAIN / "examples/bad-override.turn").returncode == 1, "a module that isn't loaded has no shapes")
-    tally.holds(run_tool("shapes", MAIN / "examples/loop.turn", "9").stdout == b"This module has no method 9.\n", "a method that isn't there")
+    passes = shaped("keva.turn", 4)
+    tally.holds(passes[0] == "Method 4: Bot.turn." and passes[1:-3] == said[1:-3], "the same shapes up to the instruction that is missing")
+    tally.holds(passes[-2:] == ["    47   0  ldc.i4.2", "    48   1  ret                             int32"], "and none of a fault")
+    tally.holds(shaped("bad-override.turn", None) is None, "a module that isn't loaded has no shapes")
+    tally.holds(shaped("loop.turn", 9) == ["This module has no method 9."], "a method that isn't there")
+    for words in (b"", b"x 0 0 0 0\n", b"0 0 0 1 1\n", b"0 0 0\n"):
+        tally.holds(trouble_of(lambda: shaped("loop.turn", 1, lambda name, data: words)), f"a program that prints {words}")
     for data in itertools.islice(vector_modules(), SHAPED):
-        lines = shape_lines(Source(data)) or []
+        lines = shape_lines(Source(data), None, second_program) or []
         first = [after.split() for line, after in zip(lines, lines[1:]) if line.startswith("Method") and after.startswith(" ")]
         tally.holds(all(words[:2] == ["0", "0"] for words in first), "every method begins with an empty stack")
+
+
+def trouble_of(action):
+    try:
+        action()
+    except Trouble as trouble:
+        return str(trouble)
+    return None
+
+
+def test_proved_shapes(tally):
+    """The shapes of the proved `tell`, beside those of the second implementation."""
+    for path in EXAMPLES:
+        tally.holds(shaped(path.name, None, proved) == shaped(path.name, None), f"{path.name}: the shapes of the proved program")
+    said = run_tool("shapes", MAIN / "examples/keva.turn", "4").stdout.decode().splitlines()
+    tally.holds(said == shaped("keva.turn", 4), "shapes of an example, as a writer asks for them")
+    tally.holds(run_tool("shapes", MAIN / "examples/bad-override.turn").returncode == 1, "a module that isn't loaded")
+    for data in random.Random(SEED).sample(list(vector_modules()), PROVED_SHAPED):
+        source = Source(data)
+        tally.holds(shape_lines(source, None, proved) == shape_lines(source, None, second_program), "the shapes of a module of the vectors")
 
 
 def explained(name, line):
@@ -429,6 +487,8 @@ def main(words):
                  test_raw_forms, test_names, test_programs, test_explain, test_shapes):
         test(tally)
     test_expected(tally, options.turn)
+    if options.turn and SECOND.is_dir():
+        test_proved_shapes(tally)
     if not SECOND.is_dir():
         print("The second implementation is not there; what needs it was passed over.")
     print(f"{tally.passed} passed, {tally.failed} failed")

@@ -1,7 +1,7 @@
 #!/usr/bin/env python3
 """tests_report.py [--proved]: tests of the page that tools/report.py makes, of tools/pages, and of the tables of docs/REFERENCE.md.
 
-States come from the second implementation; with --proved the proved `replay` is asked too, and must give the same page. Where there is a
+States and shapes come from the second implementation; with --proved the proved programs are asked too, and must give the same page. Where there is a
 Chromium on the path, the page is opened in it, stepped through by buttons and keys, and what then stands there is compared.
 """
 
@@ -138,6 +138,25 @@ def test_found(tally):
     tally.holds("no earlier instruction arrives there, so the shape is an empty stack" in page_of("back.turn", backward), "and its words")
 
 
+def test_shapes(tally):
+    """The shapes are those of `tell` where the module passes and a program is asked, else the second implementation's; the page says whose."""
+    proved_words = ("before it, as the proved check found them.", "Shapes: the proved program tell. Arrivals: the second implementation")
+    second_words = ("before it, from the second implementation.", "Shapes and arrivals: the second implementation")
+    for name, program, words in (("keva.turn", second_program, proved_words), ("keva.turn", None, second_words),
+                                 ("other-shape.turn", second_program, second_words), ("bad-override.turn", second_program, ("before it. ", "No shapes: "))):
+        text = page_of(name, program=program)
+        tally.holds(all(part in text for part in words), f"{name}: whose the shapes are")
+
+    def other(name, data):
+        said = second_program(name, data)
+        return said.replace(b" 1 2 1 1\n", b" 1 2 2 2\n") if name == "tell" else said
+
+    shapes = [method.found.shapes for method in report_of("loop.turn").methods]
+    tally.holds(["int32", "int32"] in shapes[0].values() and [method.found.shapes for method in report_of("loop.turn", program=None).methods] == shapes,
+                "the same shapes, whoever is asked")
+    tally.holds(["int64", "int64"] in report_of("loop.turn", program=other).methods[0].found.shapes.values(), "the shapes that the program tells")
+
+
 def test_vectors(tally):
     """Modules of the vectors: a page for each, blocks that hold every byte once, and the fault that the second implementation names."""
     modules = list(vector_modules())
@@ -203,7 +222,7 @@ def test_running(tally):
 
 
 def test_proved(tally):
-    """The proved `replay` gives the same pages as the second implementation."""
+    """The proved programs give the same pages as the second implementation."""
     for path in sorted((MAIN / "examples").glob("*.turn")):
         tally.holds(page_of(path.name, program=proved) == page_of(path.name), f"{path.name}: the proved program gives the same page")
 
@@ -401,7 +420,7 @@ def main(words):
     parser.add_argument("--proved", action="store_true", help="ask the proved programs too")
     options = parser.parse_args(words)
     tally = Tally()
-    for test in (test_markup, test_layout, test_flow, test_found, test_running, test_page, test_vectors, test_program, test_reference, test_pages):
+    for test in (test_markup, test_layout, test_flow, test_found, test_shapes, test_running, test_page, test_vectors, test_program, test_reference, test_pages):
         test(tally)
     if options.proved:
         test_proved(tally)

@@ -1,7 +1,7 @@
 #!/usr/bin/env python3
 """tests_text.py: tests of both spellings of the text, of the errors in it, of the words about arrivals, and of endings without a traceback.
 
-The last line is 'N passed, M failed'.
+It starts `shapes`, and with it the proved `tell`, which is proved first where it has to be. The last line is 'N passed, M failed'.
 """
 
 import pathlib
@@ -23,7 +23,7 @@ from housetext.meanings import OTHER_SHAPE
 from housetext.names import read_names, write_names
 from housetext.shaping import shape_lines
 from housetext.words import MOST_ERRORS, TextErrors
-from tests import EXAMPLES, MAIN, REFUSED_TEXTS, SECOND, TOOLS, Tally, odd_names, run_tool
+from tests import EXAMPLES, MAIN, REFUSED_TEXTS, SECOND, TOOLS, Tally, odd_names, run_tool, second_program
 
 sys.path.append(str(SECOND))
 
@@ -370,12 +370,12 @@ def test_arrivals(tally):
     tally.holds(said[-2:] == ["  line 12: br.s join", "  line 15, after label other: br.s join"], f"both instructions: {said[-2:]}")
     bare = explain(Source(assembled.data), [OTHER_SHAPE, 1, 8, 0, "-"])
     tally.holds("Two shapes arrive at label L_0010, offset 10: from offset 5: int32, int32; from offset 8: int32." in bare, f"without a text: {bare}")
-    lines = shape_lines(source, 3)
+    lines = shape_lines(source, 3, second_program)
     tally.holds(lines[-2] == "Two shapes arrive at label never, line 33: no earlier instruction goes there, so it begins with nothing; "
                 "from line 36: int32.", f"a branch back to a place that begins empty: {lines}")
     text = ARRIVALS.replace("static void stack 1\n    ldc.i4.1", "static void stack 1\n  local Stop stop\n    ldc.i4.1", 1)
     classes = assemble(text)
-    lines = shape_lines(Source(classes.data, classes.names, classes.record_lines, classes.code_lines), 2)
+    lines = shape_lines(Source(classes.data, classes.names, classes.record_lines, classes.code_lines), 2, second_program)
     tally.holds("from line 24: Stop; from line 26: null." in lines[-3], f"classes by name: {lines}")
 
 

@@ -1,5 +1,5 @@
-"""What the check finds in one method, by the second implementation: the shape before each instruction, who arrives where with what, and the
-first fault; where that is 16, the two arrivals that disagree."""
+"""What the check finds in one method: the shape before each instruction, by the proved check where the module passes; and by the second
+implementation who arrives where with what, and the first fault; where that is 16, the two arrivals that disagree."""
 
 from collections import namedtuple
 
@@ -18,10 +18,11 @@ Found = namedtuple("Found", "shapes arrivals fault")
 NOTHING = Found({}, [], None)
 
 
-def found_in(source, opinion, row):
-    """What the check finds in the method at a row; NOTHING where there is no second implementation, or no loaded module."""
+def found_in(source, opinion, row, shapes=None):
+    """What the check finds in the method at a row, with shapes by offset of the proved check where they are given; else without a second
+    implementation, or a loaded module, NOTHING."""
     if opinion is None:
-        return NOTHING
+        return NOTHING if shapes is None else NOTHING._replace(shapes=shapes)
     work = opinion.method_check(row)
     arrivals, arrive = [], work.arrive
 
@@ -38,7 +39,9 @@ def found_in(source, opinion, row):
         work.check()
     except opinion.Fault as raised:
         fault = fault_of(raised, arrivals, with_class_names(source, raised.wanted))
-    return Found({offset: words(work.shapes[offset]) for offset in work.tested}, arrivals, fault)
+    if shapes is None:
+        shapes = {offset: words(work.shapes[offset]) for offset in work.tested}
+    return Found(shapes, arrivals, fault)
 
 
 def fault_of(raised, arrivals, wanted):

@@ -21,11 +21,12 @@ BUTTONS = [("first", "First", "Home"), ("back", "Back", "left arrow"), ("next", 
 
 
 class Report:
-    """All that one page tells. `line` is what `turn` prints, read, or None; `run` is None where no run is shown, and `why` then says why."""
+    """All that one page tells. `line` is what `turn` prints, read, or None; `run` is None where no run is shown, and `why` then says why.
+    `proved_shapes` tells whether the shapes are those of the proved check."""
 
-    def __init__(self, name, text, source, opinion, methods, line, run, why):
+    def __init__(self, name, text, source, opinion, methods, line, run, why, proved_shapes):
         self.name, self.text, self.source, self.opinion = name, text, source, opinion
-        self.methods, self.line, self.run, self.why = methods, line, run, why
+        self.methods, self.line, self.run, self.why, self.proved_shapes = methods, line, run, why, proved_shapes
 
 
 def page(report):
@@ -115,8 +116,10 @@ def methods_panel(report):
     """Every method, after a list of them."""
     links = [tag("a", f"{method.row} {method.flow.name}" + (f" ({method.found.fault.number})" if method.found.fault else ""),
                  href=f"#method-{method.row}", class_="bad" if method.found.fault else None) for method in report.methods]
-    legend = tag("p", "Beside each instruction: its offset, and the depth and types of the stack before it. ", tag("span", "falls", class_="key fall"), " ",
-                 tag("span", "branches", class_="key branch"), " ", tag("span", "branches back", class_="key back"), class_="legend")
+    found_by = ", as the proved check found them" if report.proved_shapes else ", from the second implementation" if report.opinion else ""
+    legend = tag("p", f"Beside each instruction: its offset, and the depth and types of the stack before it{found_by}. ",
+                 tag("span", "falls", class_="key fall"), " ", tag("span", "branches", class_="key branch"), " ",
+                 tag("span", "branches back", class_="key back"), class_="legend")
     return tag("section", tag("h2", "Methods"), tag("nav", links, class_="list", aria_label="Methods"), legend,
                [method.section() for method in report.methods], id="methods")
 
@@ -150,12 +153,21 @@ def footer(report):
     asked = report.run is not None
     sentences = [
         "Loading, the verdict of the check, the run and its states: the proved programs turn and replay." if asked else "No run by a proved program.",
-        "Shapes and arrivals: the second implementation, which is tested and not proved." if report.opinion else "No shapes: the module isn't loaded, "
-        "or the second implementation is missing."]
+        found_words(report)]
     said = report.opinion.explanation[:3] if report.opinion and asked else None
     if said is not None and tuple(said) != report.run.answer.check:
         sentences.append(f"They disagree about the check: the second implementation says {said[0]} {said[1]} {said[2]}.")
     return tag("footer", tag("p", " ".join(sentences)))
+
+
+def found_words(report):
+    """Where shapes and arrivals come from."""
+    second = "the second implementation, which is tested and not proved."
+    if report.proved_shapes:
+        return "Shapes: the proved program tell. " + (f"Arrivals: {second}" if report.opinion else "No arrivals: the second implementation is missing.")
+    if report.opinion:
+        return f"Shapes and arrivals: {second}"
+    return "No shapes: the module isn't loaded, or the second implementation is missing."
 
 
 def data_of(report):

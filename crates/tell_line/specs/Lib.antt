@@ -1,0 +1,2 @@
+-- What the line of `tell` says.
+pub mod Shapes
