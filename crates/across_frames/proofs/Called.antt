@@ -1,7 +1,7 @@
 -- Calls, by the tests that led to their answers.
 use Prim.Native.Nat.{ℕ, _+_, _-_, _*_, _≤_, _<_}
 use mathlib.Core.Path.{_≡_}
-use mathlib.Core.Bool.{Bool, true, false, not}
+use mathlib.Core.Bool.{Bool, true, false}
 use mathlib.Core.List.{List}
 use native.Mathlib.Omega.{arith}
 use lib.ListN.{getD}
@@ -72,9 +72,14 @@ module _ (methods chosen classes : List ℕ) (object r : ℕ) (there : 1 ≤ r) 
 
 -- ---- The sorts
 
-pub sort-call : {by : Bool} (s : ℕ) → by ≡ false → not (eqb s 4) ≡ namedSort by s
+pub sort-initialiser : (by : Bool) (s : ℕ) → s ≡ 4 → false ≡ namedSort by s
+unfolding namedSort within
+sort-initialiser true s h = rw h
+sort-initialiser false s h = rw h
+
+pub sort-call : {by : Bool} (s : ℕ) → (s ≡ 4 → ⊥) → by ≡ false → true ≡ namedSort by s
 unfolding namedSort
-sort-call s e = rw e
+sort-call s n e = rw e (simp (ne-eqb _ _ n))
 
 module _ {by : Bool} (s : ℕ) (e : by ≡ true) where
   pub sort-static : s < 1 → false ≡ namedSort by s

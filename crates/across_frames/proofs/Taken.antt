@@ -1,6 +1,6 @@
 -- Arguments taken from the stack, cell by cell.
 use Prim.Native.Nat.{ℕ, suc, _+_, _-_, _*_, _≤_, _<_}
-use mathlib.Core.Path.{_≡_, sym, _∙_}
+use mathlib.Core.Path.{_≡_, sym, ap, _∙_}
 use mathlib.Core.Bool.{Bool, true, false, _&&_}
 use mathlib.Core.List.{List}
 use native.Mathlib.Omega.{arith}
@@ -13,37 +13,37 @@ use Rattle.state.specs.Work.{kindAt, bitsAt, few, fitsW, fitAllW, takingW, dueO
 
 -- ---- A loop that tests each cell
 
-module _ (methods ancestors : List ℕ) (c : Work) (r n first s : ℕ) where
-  pub fit-first : fitAllW methods ancestors c r (n - 0) (first + 0) (s + 0) ≡ fitAllW methods ancestors c r n first s
-  fit-first =
-      let a : n - 0 ≡ n = omega arith in
-      let b : first + 0 ≡ first = omega arith in
-      let e : s + 0 ≡ s = omega arith in
-      rw (a, b, e)
+module _ (methods ancestors : List ℕ) (c : Work) (r : ℕ) where
+  pub fit-first : (n first from : ℕ) → fitAllW methods ancestors c r (from + n - from) (r * 32 + first - r * 32) from ≡ fitAllW methods ancestors c r n first from
+  fit-first n first from =
+      let a : from + n - from ≡ n = omega arith in
+      let b : r * 32 + first - r * 32 ≡ first = omega arith in
+      rw (a, b)
 
-  module _ (i : ℕ) where
-    fit-more : i < n → {b : Bool} → b ≡ fitsW ancestors (c .classes) (kindAt c (s + i)) (bitsAt c (s + i)) (getD methods (r * 32 + first + i) 0)
-        → fitAllW methods ancestors c r (n - i) (first + i) (s + i) ≡ (b && fitAllW methods ancestors c r (n - (i + 1)) (first + (i + 1)) (s + (i + 1)))
+  -- the cell s is held to the type at t
+  module _ (end s t : ℕ) where
+    fit-more : s < end → r * 32 ≤ t → {b : Bool} → b ≡ fitsW ancestors (c .classes) (kindAt c s) (bitsAt c s) (getD methods t 0)
+        → fitAllW methods ancestors c r (end - s) (t - r * 32) s ≡ (b && fitAllW methods ancestors c r (end - (s + 1)) (t + 1 - r * 32) (s + 1))
     unfolding fitAllW
-    fit-more h q =
-        let a : n - i ≡ suc (n - (i + 1)) = omega arith in
-        let b : first + (i + 1) ≡ suc (first + i) = omega arith in
-        let e : s + (i + 1) ≡ suc (s + i) = omega arith in
-        let d : r * 32 + first + i ≡ r * 32 + (first + i) = omega arith in
-        rw (a, b, e, q, d)
+    fit-more h k q =
+        let a : end - s ≡ suc (end - (s + 1)) = omega arith in
+        let b : t + 1 - r * 32 ≡ suc (t - r * 32) = omega arith in
+        let e : s + 1 ≡ suc s = omega arith in
+        let d : t ≡ r * 32 + (t - r * 32) = omega arith in
+        rw (a, b, e, q ∙ ap (λ i. fitsW ancestors (c .classes) (kindAt c s) (bitsAt c s) (getD methods i 0)) d)
 
     -- the rest decides what all do
-    module _ {all : Bool} (rest : fitAllW methods ancestors c r (n - i) (first + i) (s + i) ≡ all) (h : i < n) {b : Bool} (q : b ≡ fitsW ancestors (c .classes) (kindAt c (s + i)) (bitsAt c (s + i)) (getD methods (r * 32 + first + i) 0)) where
+    module _ {all : Bool} (rest : fitAllW methods ancestors c r (end - s) (t - r * 32) s ≡ all) (h : s < end) (k : r * 32 ≤ t) {b : Bool} (q : b ≡ fitsW ancestors (c .classes) (kindAt c s) (bitsAt c s) (getD methods t 0)) where
       pub fit-fails : b ≡ false → false ≡ all
-      fit-fails z = sym (simp (z) at (fit-more h {b = b} q)) ∙ rest
+      fit-fails z = sym (simp (z) at (fit-more h k {b = b} q)) ∙ rest
 
-      pub fit-goes : b ≡ true → fitAllW methods ancestors c r (n - (i + 1)) (first + (i + 1)) (s + (i + 1)) ≡ all
-      fit-goes z = sym (simp (z) at (fit-more h {b = b} q)) ∙ rest
+      pub fit-goes : b ≡ true → fitAllW methods ancestors c r (end - (s + 1)) (t + 1 - r * 32) (s + 1) ≡ all
+      fit-goes z = sym (simp (z) at (fit-more h k {b = b} q)) ∙ rest
 
-    pub fit-done : n ≤ i → fitAllW methods ancestors c r (n - i) (first + i) (s + i) ≡ true
+    pub fit-done : end ≤ s → fitAllW methods ancestors c r (end - s) (t - r * 32) s ≡ true
     unfolding fitAllW
     fit-done h =
-        let a : n - i ≡ 0 = omega arith in
+        let a : end - s ≡ 0 = omega arith in
         rw a
 
 -- ---- Arguments taken

@@ -42,14 +42,15 @@ fn fit_all(
         → r ≡ fitAllW (now (methods .entry)) (now (ancestors .entry))
         (onLeave c (c .regs) (now (cells .entry)) (now (kinds .entry)) (c .marks) (now (classes .entry))) row n first from) ⌝ }
 {
-    let mut i: usize = 0;
-    while i < n {
-        let s = from + i;
-        let t = row * ROW + first + i;
+    let end = from + n;
+    let mut s = from;
+    let mut t = row * ROW + first;
+    while s < end {
         if !fits(classes, ancestors, kinds[s], cells[s], methods[t]) {
             return false;
         }
-        i += 1;
+        s += 1;
+        t += 1;
     }
     true
 }

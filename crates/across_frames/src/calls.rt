@@ -114,8 +114,11 @@ fn taken_row(
 fn callable(sort: u8, callvirt: bool) -> bool
     ensures { λ r. ⌜ r ≡ namedSort callvirt sort ⌝ }
 {
+    if sort == INITIALISER {
+        return false;
+    }
     if !callvirt {
-        return sort != INITIALISER;
+        return true;
     }
     if sort < INSTANCE {
         return false;

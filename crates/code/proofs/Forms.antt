@@ -1,14 +1,13 @@
 -- The two tables agree: the length of an instruction by its form and by its first byte.
-use mathlib.Core.Path.{_≡_, refl, sym, _∙_}
+use mathlib.Core.Path.{_≡_, refl}
 use mathlib.Core.Bool.{Bool, true, false, not}
 use mathlib.Core.Option.{Option, none, some}
 use mathlib.Core.List.{List, [], _∷_}
 use Prim.Native.Nat.{ℕ, _≤_, _<_}
 use native.Mathlib.Omega.{arith}
-use lib.Dec.{T, leb, eqb, eqb→eq}
+use lib.Dec.{T, leb, eqb}
 use borrow.Author.Tests.{ne-eqb, le-leb, lt-leb}
 use Rattle.model.specs.Answer.{pick, isNone}
-use Rattle.model.specs.Loading.{within}
 use Rattle.model.specs.Code.{Form, bare, short, long, double, near, far, second, Kept, sizeOf, lengthBy, lengthOf, _is_, op, un, const, branches, loads, operators, objects, instructions, afterFE, formOf}
 use Rattle.code.specs.Insn.{Length, no-bytes, one-byte, two-bytes, five-bytes, nine-bytes}
 use Rattle.code.proofs.Table.{under, both, both-left, both-right}

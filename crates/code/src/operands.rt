@@ -10,10 +10,10 @@ ghost use Rattle.model.specs.Loading.{little};
 
 // Whether an instruction of a size at an offset is there whole.
 pub fn whole(part: &[u8], at: usize, size: usize) -> bool
-    requires { ⌜ at < length (now part) ⌝ }
+    requires { ⌜ (at < length (now part)) × (size ≤ 16) ⌝ }
     ensures { λ r. ⌜ r ≡ leb (at + size) (length (now (part .entry))) ⌝ }
 {
-    size <= part.len() - at
+    at + size <= part.len()
 }
 
 // The byte after the opcode.

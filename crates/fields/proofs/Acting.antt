@@ -1,6 +1,6 @@
 -- What an instruction with a token does, by what its token names.
 use Prim.Native.Nat.{ℕ, _+_, _%_, _≤_, _<_}
-use mathlib.Core.Path.{_≡_, refl, ap, _∙_}
+use mathlib.Core.Path.{_≡_, refl, _∙_}
 use mathlib.Core.Bool.{Bool, true, false}
 use mathlib.Core.Option.{some}
 use mathlib.Core.List.{List}
@@ -96,50 +96,44 @@ module _ (P : Tables) (part : List ℕ) (y : Stay) (c : Work) {count : ℕ} {fie
   acts-stsfld t next = rw (l .same-count, l .same-fields, l .same-initialisers, l .same-ancestors) refl
 
   -- stfld, or ldfld
-  pub object-refused : {n r : ℕ} (store : Bool) → getD part (c .regs .at) 0 ≡ pick store 0x7D 0x7B → NamesField part (c .regs .at) fields count 0 n r
+  pub stfld-refused : {n r : ℕ} → getD part (c .regs .at) 0 ≡ 0x7D → NamesField part (c .regs .at) fields count 0 n r
       → {o : ℕ} → (n ≡ 0 → ⊥) → Meets n o c c (actsW P part y c)
-  unfolding pick
-  object-refused true b m z = refuses P part y c stfld (omega arith) stfld-form inside b (isField count fields 0)
-      (stfldRow fields initialisers ancestors y c) acts-stfld (m .row) z
-  object-refused false b m z = refuses P part y c ldfld (omega arith) ldfld-form inside b (isField count fields 0)
-      (ldfldRow fields initialisers ancestors y c) acts-ldfld (m .row) z
+  stfld-refused b m z =
+      refuses P part y c stfld (omega arith) stfld-form inside b (isField count fields 0) (stfldRow fields initialisers ancestors y c) acts-stfld (m .row) z
 
-  module _ {store : Bool} {n r : ℕ} (byte : getD part (c .regs .at) 0 ≡ pick store 0x7D 0x7B) (m : NamesField part (c .regs .at) fields count 0 n r)
-      (z : n ≡ 0) where
-    pub ldfld-does : store ≡ false → actsW P part y c ≡ ldfldRow fields initialisers ancestors y c r (c .regs .at + 5)
-    unfolding pick
-    ldfld-does s =
-        does P part y c ldfld (omega arith) ldfld-form inside (byte ∙ ap (λ (t : Bool). pick t 0x7D 0x7B) s) (isField count fields 0)
-        (ldfldRow fields initialisers ancestors y c) acts-ldfld (m .row) z
+  pub ldfld-refused : {n r : ℕ} → getD part (c .regs .at) 0 ≡ 0x7B → NamesField part (c .regs .at) fields count 0 n r
+      → {o : ℕ} → (n ≡ 0 → ⊥) → Meets n o c c (actsW P part y c)
+  ldfld-refused b m z =
+      refuses P part y c ldfld (omega arith) ldfld-form inside b (isField count fields 0) (ldfldRow fields initialisers ancestors y c) acts-ldfld (m .row) z
 
-    pub stfld-does : store ≡ true → actsW P part y c ≡ stfldRow fields initialisers ancestors y c r (c .regs .at + 5)
-    unfolding pick
-    stfld-does s =
-        does P part y c stfld (omega arith) stfld-form inside (byte ∙ ap (λ (t : Bool). pick t 0x7D 0x7B) s) (isField count fields 0)
-        (stfldRow fields initialisers ancestors y c) acts-stfld (m .row) z
+  module _ {n r : ℕ} (m : NamesField part (c .regs .at) fields count 0 n r) (z : n ≡ 0) where
+    pub ldfld-does : getD part (c .regs .at) 0 ≡ 0x7B → actsW P part y c ≡ ldfldRow fields initialisers ancestors y c r (c .regs .at + 5)
+    ldfld-does byte =
+        does P part y c ldfld (omega arith) ldfld-form inside byte (isField count fields 0) (ldfldRow fields initialisers ancestors y c) acts-ldfld (m .row) z
+
+    pub stfld-does : getD part (c .regs .at) 0 ≡ 0x7D → actsW P part y c ≡ stfldRow fields initialisers ancestors y c r (c .regs .at + 5)
+    stfld-does byte =
+        does P part y c stfld (omega arith) stfld-form inside byte (isField count fields 0) (stfldRow fields initialisers ancestors y c) acts-stfld (m .row) z
 
   -- stsfld, or ldsfld
-  pub static-refused : {n r : ℕ} (store : Bool) → getD part (c .regs .at) 0 ≡ pick store 0x80 0x7E → NamesField part (c .regs .at) fields count 1 n r
+  pub stsfld-refused : {n r : ℕ} → getD part (c .regs .at) 0 ≡ 0x80 → NamesField part (c .regs .at) fields count 1 n r
       → {o : ℕ} → (n ≡ 0 → ⊥) → Meets n o c c (actsW P part y c)
-  unfolding pick
-  static-refused true b m z = refuses P part y c stsfld (omega arith) stsfld-form inside b (isField count fields 1)
-      (stsfldRow fields initialisers ancestors y c) acts-stsfld (m .row) z
-  static-refused false b m z = refuses P part y c ldsfld (omega arith) ldsfld-form inside b (isField count fields 1)
-      (ldsfldRow fields initialisers y c) acts-ldsfld (m .row) z
+  stsfld-refused b m z =
+      refuses P part y c stsfld (omega arith) stsfld-form inside b (isField count fields 1) (stsfldRow fields initialisers ancestors y c) acts-stsfld (m .row) z
 
-  module _ {store : Bool} {n r : ℕ} (byte : getD part (c .regs .at) 0 ≡ pick store 0x80 0x7E) (m : NamesField part (c .regs .at) fields count 1 n r)
-      (z : n ≡ 0) where
-    pub ldsfld-does : store ≡ false → actsW P part y c ≡ ldsfldRow fields initialisers y c r (c .regs .at + 5)
-    unfolding pick
-    ldsfld-does s =
-        does P part y c ldsfld (omega arith) ldsfld-form inside (byte ∙ ap (λ (t : Bool). pick t 0x80 0x7E) s) (isField count fields 1)
-        (ldsfldRow fields initialisers y c) acts-ldsfld (m .row) z
+  pub ldsfld-refused : {n r : ℕ} → getD part (c .regs .at) 0 ≡ 0x7E → NamesField part (c .regs .at) fields count 1 n r
+      → {o : ℕ} → (n ≡ 0 → ⊥) → Meets n o c c (actsW P part y c)
+  ldsfld-refused b m z =
+      refuses P part y c ldsfld (omega arith) ldsfld-form inside b (isField count fields 1) (ldsfldRow fields initialisers y c) acts-ldsfld (m .row) z
 
-    pub stsfld-does : store ≡ true → actsW P part y c ≡ stsfldRow fields initialisers ancestors y c r (c .regs .at + 5)
-    unfolding pick
-    stsfld-does s =
-        does P part y c stsfld (omega arith) stsfld-form inside (byte ∙ ap (λ (t : Bool). pick t 0x80 0x7E) s) (isField count fields 1)
-        (stsfldRow fields initialisers ancestors y c) acts-stsfld (m .row) z
+  module _ {n r : ℕ} (m : NamesField part (c .regs .at) fields count 1 n r) (z : n ≡ 0) where
+    pub ldsfld-does : getD part (c .regs .at) 0 ≡ 0x7E → actsW P part y c ≡ ldsfldRow fields initialisers y c r (c .regs .at + 5)
+    ldsfld-does byte =
+        does P part y c ldsfld (omega arith) ldsfld-form inside byte (isField count fields 1) (ldsfldRow fields initialisers y c) acts-ldsfld (m .row) z
+
+    pub stsfld-does : getD part (c .regs .at) 0 ≡ 0x80 → actsW P part y c ≡ stsfldRow fields initialisers ancestors y c r (c .regs .at + 5)
+    stsfld-does byte =
+        does P part y c stsfld (omega arith) stsfld-form inside byte (isField count fields 1) (stsfldRow fields initialisers ancestors y c) acts-stsfld (m .row) z
 
 -- ---- Casts
 

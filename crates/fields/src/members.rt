@@ -17,7 +17,6 @@ use state::fit::wide;
 ghost use mathlib.Core.Path.{_≡_};
 ghost use Prim.Native.Nat.{_+_, _≤_, _<_};
 ghost use lib.ListN.{length, getD};
-ghost use Rattle.model.specs.Answer.{pick};
 ghost use Rattle.loaded.specs.Holds.{fieldCell};
 ghost use Rattle.state.specs.View.{Work};
 ghost use Rattle.state.specs.Work.{Tables, ldfldRow, stfldRow, ldsfldRow, stsfldRow, actsW};
@@ -224,9 +223,8 @@ fn stsfld(
     on(at + SIZE, sp - 1)
 }
 
-// stfld, or ldfld.
-pub fn object_field(
-    store: bool,
+// stfld.
+pub fn object_store(
     y: Stay,
     part: &[u8],
     at: usize,
@@ -243,7 +241,7 @@ pub fn object_field(
 ) -> Tried
     requires { ⌜ Reaches y sp at 0 (now fields) (now initialisers) ⌝
         ∗ ⌜ (at < length (now part)) × (count ≤ 128) ⌝
-        ∗ ⌜ getD (now part) at 0 ≡ pick store 0x7D 0x7B ⌝
+        ∗ ⌜ getD (now part) at 0 ≡ 0x7D ⌝
         ∗ ⌜ Placed (now classes) ⌝ }
     ensures { λ g. ⌜ Own y g ⌝
         ∗ ⌜ ((P : Tables) (c : Work) → LendsFields P count (now (fields .entry)) (now (initialisers .entry)) (now (ancestors .entry)) →
@@ -257,21 +255,53 @@ pub fn object_field(
     if n.refusal != 0 {
         return ends(n.refusal, at, sp);
     }
-    if store {
-        return stfld(
-            y,
-            at,
-            sp,
-            cells,
-            kinds,
-            marks,
-            classes,
-            heap,
-            fields,
-            initialisers,
-            ancestors,
-            n.row,
-        );
+    stfld(
+        y,
+        at,
+        sp,
+        cells,
+        kinds,
+        marks,
+        classes,
+        heap,
+        fields,
+        initialisers,
+        ancestors,
+        n.row,
+    )
+}
+
+// ldfld.
+pub fn object_load(
+    y: Stay,
+    part: &[u8],
+    at: usize,
+    sp: usize,
+    cells: &mut [u64; 2048],
+    kinds: &mut [u8; 2048],
+    marks: &mut [u8; 33],
+    classes: &[u8; 256],
+    heap: &mut [u64; 2048],
+    fields: &[u8; 516],
+    initialisers: &[u8; 33],
+    ancestors: &[u64; 33],
+    count: usize,
+) -> Tried
+    requires { ⌜ Reaches y sp at 0 (now fields) (now initialisers) ⌝
+        ∗ ⌜ (at < length (now part)) × (count ≤ 128) ⌝
+        ∗ ⌜ getD (now part) at 0 ≡ 0x7B ⌝
+        ∗ ⌜ Placed (now classes) ⌝ }
+    ensures { λ g. ⌜ Own y g ⌝
+        ∗ ⌜ ((P : Tables) (c : Work) → LendsFields P count (now (fields .entry)) (now (initialisers .entry)) (now (ancestors .entry)) →
+        let before = onMember c at sp (now (cells .entry)) (now (kinds .entry)) (now (marks .entry)) (now (classes .entry)) (now (heap .entry))
+        (c .statics) in
+        Meets (g .gone .how) (g .gone .at) (onMember c (g .gone .at) (g .gone .sp) (now (cells .exit)) (now (kinds .exit)) (now (marks .exit))
+        (now (classes .entry)) (now (heap .exit)) (c .statics))
+        before (actsW P (now (part .entry)) y before)) ⌝ }
+{
+    let n = field_named(part, at, fields, count, 0);
+    if n.refusal != 0 {
+        return ends(n.refusal, at, sp);
     }
     ldfld(
         y,
@@ -289,9 +319,8 @@ pub fn object_field(
     )
 }
 
-// stsfld, or ldsfld.
-pub fn static_field(
-    store: bool,
+// stsfld.
+pub fn static_store(
     y: Stay,
     part: &[u8],
     at: usize,
@@ -308,7 +337,7 @@ pub fn static_field(
 ) -> Tried
     requires { ⌜ Reaches y sp at 0 (now fields) (now initialisers) ⌝
         ∗ ⌜ (at < length (now part)) × (count ≤ 128) ⌝
-        ∗ ⌜ getD (now part) at 0 ≡ pick store 0x80 0x7E ⌝
+        ∗ ⌜ getD (now part) at 0 ≡ 0x80 ⌝
         ∗ ⌜ Placed (now classes) ⌝ }
     ensures { λ g. ⌜ Own y g ⌝
         ∗ ⌜ ((P : Tables) (c : Work) → LendsFields P count (now (fields .entry)) (now (initialisers .entry)) (now (ancestors .entry)) →
@@ -322,21 +351,53 @@ pub fn static_field(
     if n.refusal != 0 {
         return ends(n.refusal, at, sp);
     }
-    if store {
-        return stsfld(
-            y,
-            at,
-            sp,
-            cells,
-            kinds,
-            marks,
-            classes,
-            statics,
-            fields,
-            initialisers,
-            ancestors,
-            n.row,
-        );
+    stsfld(
+        y,
+        at,
+        sp,
+        cells,
+        kinds,
+        marks,
+        classes,
+        statics,
+        fields,
+        initialisers,
+        ancestors,
+        n.row,
+    )
+}
+
+// ldsfld.
+pub fn static_load(
+    y: Stay,
+    part: &[u8],
+    at: usize,
+    sp: usize,
+    cells: &mut [u64; 2048],
+    kinds: &mut [u8; 2048],
+    marks: &mut [u8; 33],
+    classes: &[u8; 256],
+    statics: &mut [u64; 64],
+    fields: &[u8; 516],
+    initialisers: &[u8; 33],
+    ancestors: &[u64; 33],
+    count: usize,
+) -> Tried
+    requires { ⌜ Reaches y sp at 0 (now fields) (now initialisers) ⌝
+        ∗ ⌜ (at < length (now part)) × (count ≤ 128) ⌝
+        ∗ ⌜ getD (now part) at 0 ≡ 0x7E ⌝
+        ∗ ⌜ Placed (now classes) ⌝ }
+    ensures { λ g. ⌜ Own y g ⌝
+        ∗ ⌜ ((P : Tables) (c : Work) → LendsFields P count (now (fields .entry)) (now (initialisers .entry)) (now (ancestors .entry)) →
+        let before = onMember c at sp (now (cells .entry)) (now (kinds .entry)) (now (marks .entry)) (now (classes .entry)) (c .heap)
+        (now (statics .entry)) in
+        Meets (g .gone .how) (g .gone .at) (onMember c (g .gone .at) (g .gone .sp) (now (cells .exit)) (now (kinds .exit)) (now (marks .exit))
+        (now (classes .entry)) (c .heap) (now (statics .exit)))
+        before (actsW P (now (part .entry)) y before)) ⌝ }
+{
+    let n = field_named(part, at, fields, count, 1);
+    if n.refusal != 0 {
+        return ends(n.refusal, at, sp);
     }
     ldsfld(
         y,

@@ -7,6 +7,7 @@ use code::operands::byte_after;
 use code::operands::four_after;
 use code::operands::whole;
 use operators::comparisons::Holds;
+use operators::comparisons::TWO_NARROW;
 use operators::comparisons::both;
 use operators::comparisons::related;
 use operators::comparisons::related_bits;
@@ -21,9 +22,6 @@ ghost use Rattle.state.specs.Work.{Tables, testW, whenW, branchW, actsW};
 ghost use Rattle.state.specs.Meets.{Stays, Topped, Few, Meets, onStack};
 ghost use Rattle.operators.specs.Gives.{relationBy, jumpBy};
 ghost use Rattle.in_frame.specs.Tries.{Own};
-
-// Two int32, as `both` has them.
-const NARROW: u16 = 257;
 
 // The bits of a value: of an int32 the low 32.
 fn shown(kind: u8, bits: u64) -> u64
@@ -87,13 +85,14 @@ fn when(
     let j = sp - 1;
     let k = kinds[i];
     let l = kinds[j];
-    if both(k, l) == NARROW {
+    let pair = both(k, l);
+    if pair == TWO_NARROW {
         if related_bits(relation, false, cells[i], cells[j]) {
             return on(target, i);
         }
         return on(next, i);
     }
-    let said = related(relation, k, l, cells[i], cells[j]);
+    let said = related(relation, pair, cells[i], cells[j]);
     match said {
         Holds::Says(b) => {
             if b {

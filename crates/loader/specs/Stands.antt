@@ -7,7 +7,7 @@ use lib.ListN.{length, getD, set}
 use lib.Dec.{ltb, eqb}
 use Rattle.model.specs.Answer.{Answer, pick, orElse, isNone, at, row, those, lastOf}
 use Rattle.model.specs.Tables.{byteOf, virtual, sortByte, Field, Method, partOf, methodAt, arguments}
-use Rattle.model.specs.Tables.{parentOf, isOwn, isStaticField, slot, root, initialiserOf}
+use Rattle.model.specs.Tables.{isOwn, isStaticField, slot, root, initialiserOf}
 use Rattle.model.specs.Loading.{Loading, noField}
 use Rattle.model.specs.Operators.{flag}
 use Rattle.loaded.specs.Holds.{byteAt, fromRow}

@@ -14,7 +14,7 @@ use Rattle.model.specs.State.{Value}
 use Rattle.loaded.specs.Holds.{methodCell, partOffset, partLength}
 use Rattle.state.specs.declared.Stay.{Stay}
 use Rattle.state.specs.View.{Regs, Work}
-use Rattle.state.specs.Work.{Tables, withRegs, valueDue, dueOfByte, stayOf, codeOf, stepW, EndedW, haltedW, finishedW}
+use Rattle.state.specs.Work.{Tables, withRegs, valueDue, stayOf, codeOf, stepW, EndedW, haltedW, finishedW}
 use Rattle.state.specs.Order.{Saved}
 use Rattle.state.specs.Meets.{Stays, Topped, Placed, answer, moves, Leaves}
 use Rattle.across_frames.specs.Lent.{regsAt, onLeave, CallRanges, Framed, InFrame}
@@ -24,8 +24,6 @@ use Rattle.between_steps.proofs.Going.{Going, halts, finishes, again}
 use Rattle.same_frame.specs.Stays.{Place, Came}
 use Rattle.same_frame.specs.declared.Stayed.{Stayed}
 use Rattle.same_frame.proofs.Stepped.{part-size}
-use Rattle.machine.specs.Ending.{endedBy}
-use Rattle.machine.specs.declared.Stopped.{Stopped}
 
 -- the end with a number, n steps having been made before it: 1 is a return from the entry
 unfoldable pub endsWith : ℕ → ℕ → Option Value → Work → EndedW
@@ -34,16 +32,6 @@ endsWith how n v c = pick (eqb how 1) (finishedW (suc n) v c) (haltedW how n c)
 pub halts-with : (how n : ℕ) (v : Option Value) (c : Work) → 30 < how → endsWith how n v c ≡ haltedW how n c
 unfolding endsWith pick
 halts-with how n v c h = simp (ne-eqb how 1 (λ e. absurd (omega arith)))
-
--- what is said at the end, the return counted
-pub ended-by : (methods : List ℕ) (r : Stopped) (n : ℕ) (c : Work) → r .steps ≡ pick (eqb (r .how) 1) (suc n) n
-    → endedBy methods r c ≡ endsWith (r .how) n (valueDue c (dueOfByte (methodCell methods (r .row) 26))) c
-unfolding endedBy endsWith pick
-ended-by methods r n c e = go (eqb (r .how) 1) refl
-  where
-    go : (b : Bool) → eqb (r .how) 1 ≡ b → endedBy methods r c ≡ endsWith (r .how) n (valueDue c (dueOfByte (methodCell methods (r .row) 26))) c
-    go true q = rw (e, q)
-    go false q = rw (e, q)
 
 -- the place of the frame with these registers
 pub place-of : {code : List ℕ} {P : Tables} {y : Stay} {part : List ℕ} (g : Regs)

@@ -1,5 +1,5 @@
 -- What the loop is given, and how it ends.
-use Prim.Native.Nat.{ℕ, suc, _/_}
+use Prim.Native.Nat.{ℕ, suc, _-_, _/_}
 use mathlib.Core.Path.{_≡_}
 use mathlib.Core.Logic.{_⊎_}
 use mathlib.Core.List.{List}
@@ -27,12 +27,12 @@ pub record Sets (code : List ℕ) (L : Loaded) (c : Work) : Type 0 where
 abbrev pub lastRegs : Stopped → Regs
 lastRegs r = record { fp = r .fp; row = r .row; at = r .at; sp = r .sp; made = r .made }
 
--- how the run on the arrays ended: 1 is a return from the entry
-unfoldable pub endedBy : List ℕ → Stopped → Work → EndedW
-endedBy methods r c =
+-- how the run on the arrays ended: 1 is a return from the entry, which is a step too
+unfoldable pub endedBy : List ℕ → ℕ → Stopped → Work → EndedW
+endedBy methods budget r c =
     pick (eqb (r .how) 1)
-    (finishedW (r .steps) (valueDue c (dueOfByte (methodCell methods (r .row) 26))) c)
-    (haltedW (r .how) (r .steps) c)
+    (finishedW (suc (budget - r .left)) (valueDue c (dueOfByte (methodCell methods (r .row) 26))) c)
+    (haltedW (r .how) (budget - r .left) c)
 
 -- a run on the arrays from the work c on that is the model's, with work in order at its end; n is the number of methods
 pub record Ends (M : Module) (n budget : ℕ) (c : Work) (x : EndedW) : Type 0 where

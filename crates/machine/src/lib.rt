@@ -1,23 +1,19 @@
 // The loop over the steps, within the budget.
-use code::part::part;
 use crossing::cross;
 use loaded::Counts;
 use loaded::columns::LENGTH;
 use loaded::columns::MAX_STACK;
 use loaded::columns::METHOD;
-use loaded::columns::OFFSET;
 use loaded::columns::PART;
 use same_frame::same_frame;
 use state::Moved;
 use state::Stay;
 use state::columns::ON;
-use state::columns::OVER;
 use state::columns::STACK;
 use state::fit::wide;
 ghost use mathlib.Core.Path.{_≡_};
-ghost use Prim.Native.Nat.{suc, _+_, _-_, _*_, _≤_, _<_};
-ghost use lib.Dec.{eqb};
-ghost use Rattle.model.specs.Answer.{pick};
+ghost use lib.ListN.{length};
+ghost use Prim.Native.Nat.{_+_, _*_, _≤_, _<_};
 ghost use Rattle.model.specs.Tables.{partOf, Module};
 ghost use Rattle.loaded.specs.Holds.{methodCell, partOffset, partLength, Holds};
 ghost use Rattle.state.specs.Order.{Fine, Good};
@@ -25,11 +21,11 @@ ghost use Rattle.state.specs.Meets.{regsOf};
 ghost use Rattle.between_steps.specs.Running.{lentLoaded, lentWork};
 ghost use Rattle.machine.specs.Ending.{Sets, lastRegs, endedBy, Ends};
 
-// How the loop was left: the number of the ending, 1 a return from the entry, the steps made, and the registers, `row` the running method's and `made` the number
+// How the loop was left: the number of the ending, 1 a return from the entry, what is left of the budget, and the registers, `row` the running method's and `made` the number
 // of objects.
 pub struct Stopped {
     pub how: u8,
-    pub steps: u64,
+    pub left: u64,
     pub at: usize,
     pub sp: usize,
     pub fp: usize,
@@ -54,22 +50,16 @@ fn stay(fp: usize, row: usize, methods: &[u8; 4128]) -> Stay
 
 // The code of the method at a row.
 fn body<'a>(code: &'a [u8], parts: &[usize; 258], row: usize) -> &'a [u8]
-    requires { ⌜ row ≤ 128 ⌝ }
+    requires { ⌜ (row ≤ 128) × (0 < partLength (now parts) row → partOffset (now parts) row + partLength (now parts) row ≤ length (now code)) ⌝ }
     ensures { λ r. ⌜ now r ≡ partOf (now (code .entry)) (partOffset (now (parts .entry)) row) (partLength (now (parts .entry)) row) ⌝ }
 {
     let at = row * PART;
-    part(code, parts[at + OFFSET], parts[at + LENGTH])
-}
-
-// The steps made: the return from the entry is a step too.
-fn counted(how: u8, budget: u64, left: u64) -> u64
-    requires { ⌜ (left ≤ budget) × (how ≡ 1 → 0 < left) ⌝ }
-    ensures { λ r. ⌜ r ≡ pick (eqb how 1) (suc (budget - left)) (budget - left) ⌝ }
-{
-    if how == OVER {
-        return budget - (left - 1);
+    let from = parts[at];
+    if code.len() <= from {
+        return &code[..0];
     }
-    budget - left
+    let end = from + parts[at + LENGTH];
+    &code[from..end]
 }
 
 // At most `budget` steps from the first registers on. What the steps do is left in the lent arrays.
@@ -92,14 +82,15 @@ pub fn steps(
 ) -> Stopped
     requires { ⌜ Sets (now code) (lentLoaded counts (now parents) (now initialisers) (now fields) (now methods) (now parts))
         (lentWork (regsOf first) (now cells) (now kinds) (now marks) (now classes) (now heap) (now statics)) ⌝ }
-    ensures { λ r. ⌜ ((M : Module) → Fine M →
+    ensures { λ r. ⌜ (r .left ≤ budget) × (r .how ≡ 1 → 0 < r .left) ⌝
+        ∗ ⌜ ((M : Module) → Fine M →
         Holds M (now (code .entry)) (lentLoaded counts (now (parents .entry)) (now (initialisers .entry)) (now (fields .entry)) (now (methods .entry))
         (now (parts .entry))) →
         let before = lentWork (regsOf first) (now (cells .entry)) (now (kinds .entry)) (now (marks .entry)) (now (classes .entry)) (now (heap .entry))
         (now (statics .entry)) in
         let after = lentWork (lastRegs r) (now (cells .exit)) (now (kinds .exit)) (now (marks .exit)) (now (classes .exit)) (now (heap .exit))
         (now (statics .exit)) in
-        Good M before → Ends M (counts .methods) budget before (endedBy (now (methods .entry)) r after)) ⌝ }
+        Good M before → Ends M (counts .methods) budget before (endedBy (now (methods .entry)) budget r after)) ⌝ }
 {
     let mut variables = [0u8; 4128];
     prepare::variables(counts, methods, &mut variables);
@@ -175,7 +166,7 @@ pub fn steps(
     }
     Stopped {
         how: how,
-        steps: counted(how, budget, left),
+        left: left,
         at: at,
         sp: sp,
         fp: fp,

@@ -8,7 +8,7 @@ use mathlib.Core.List.{List, [], _∷_}
 use lib.ListN.{drop}
 use lib.Dec.{T, leb, eqb, eqb→eq, leb→le, T-not}
 use Rattle.model.specs.Answer.{pick}
-use Rattle.model.specs.Loading.{little, within}
+use Rattle.model.specs.Loading.{little}
 use Rattle.model.specs.Code.{sizeOf, lengthBy, lengthOf, Ins, Form, bare, short, long, double, near, far, second, Kept, _is_}
 use Rattle.model.specs.Code.{op, un, const, i4-s, i4, i8, r8, branches, loads, operators, objects, instructions, afterFE, formOf, Decoded, asForm}
 use Rattle.model.specs.Code.{fullForm, decodeByte, decodeAt, decode}

@@ -1,2 +1,6 @@
 -- What is proved once and cited.
-pub mod Tried
+pub mod Forms
+pub mod Unknown
+pub mod Promised
+pub mod Moves
+pub mod Rest

@@ -1,5 +1,9 @@
 // What the operators give for one or two cells, by their kinds.
+use crate::comparisons::BELOW_REALS;
 use crate::comparisons::Holds;
+use crate::comparisons::TWO_NARROW;
+use crate::comparisons::TWO_REALS;
+use crate::comparisons::TWO_WIDE;
 use crate::comparisons::both;
 use crate::comparisons::related;
 use crate::comparisons::related_bits;
@@ -55,13 +59,17 @@ fn number_real(op: u8, a: u64, b: u64) -> u64
 fn number(op: u8, k: u8, l: u8, a: u64, b: u64) -> Given
     ensures { λ r. ⌜ (k ≤ 3 → l ≤ 3 → given r ≡ binaryGives (number (numberBy op)) k l a b) ⌝ }
 {
-    if both(k, l) == 257 {
+    let pair = both(k, l);
+    if pair == TWO_NARROW {
         return tagged(1, number_bits(op, false, a, b));
     }
-    if both(k, l) == 514 {
-        return tagged(2, number_bits(op, true, a, b));
+    if pair < BELOW_REALS {
+        if pair == TWO_WIDE {
+            return tagged(2, number_bits(op, true, a, b));
+        }
+        return Given::Ends(45);
     }
-    if both(k, l) == 771 {
+    if pair == TWO_REALS {
         return Given::Cell(3, number_real(op, a, b));
     }
     Given::Ends(45)
@@ -88,10 +96,10 @@ fn whole_bits(op: u8, wide: bool, a: u64, b: u64) -> Out
 fn whole(op: u8, k: u8, l: u8, a: u64, b: u64) -> Given
     ensures { λ r. ⌜ (k ≤ 3 → l ≤ 3 → given r ≡ binaryGives (whole (wholeBy op)) k l a b) ⌝ }
 {
-    if both(k, l) == 257 {
+    if both(k, l) == TWO_NARROW {
         return tagged(1, whole_bits(op, false, a, b));
     }
-    if both(k, l) == 514 {
+    if both(k, l) == TWO_WIDE {
         return tagged(2, whole_bits(op, true, a, b));
     }
     Given::Ends(45)
@@ -112,7 +120,7 @@ fn shift_bits(op: u8, wide: bool, a: u64, n: u64) -> u64
 fn shift(op: u8, k: u8, l: u8, a: u64, n: u64) -> Given
     ensures { λ r. ⌜ (k ≤ 3 → l ≤ 3 → given r ≡ binaryGives (shift (shiftBy op)) k l a n) ⌝ }
 {
-    if both(k, l) == 257 {
+    if both(k, l) == TWO_NARROW {
         return Given::Cell(1, shift_bits(op, false, a, n));
     }
     if both(k, l) == 258 {
@@ -126,13 +134,14 @@ fn shift(op: u8, k: u8, l: u8, a: u64, n: u64) -> Given
 fn compare(relation: u8, k: u8, l: u8, a: u64, b: u64) -> Given
     ensures { λ r. ⌜ (k ≤ 3 → l ≤ 3 → given r ≡ binaryGives (compare (relationBy relation)) k l a b) ⌝ }
 {
-    if both(k, l) == 257 {
+    let pair = both(k, l);
+    if pair == TWO_NARROW {
         if related_bits(relation, false, a, b) {
             return Given::Cell(1, 1);
         }
         return Given::Cell(1, 0);
     }
-    let said = related(relation, k, l, a, b);
+    let said = related(relation, pair, a, b);
     match said {
         Holds::Says(b) => {
             if b {

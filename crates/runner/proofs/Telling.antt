@@ -1,5 +1,5 @@
 -- From the end of the loop to what is told of it.
-use Prim.Native.Nat.{ℕ, suc, _+_, _/_, _≤_}
+use Prim.Native.Nat.{ℕ, suc, _+_, _-_, _/_, _≤_}
 use mathlib.Core.Path.{_≡_, refl, sym, ap, _∙_}
 use mathlib.Core.Logic.{_⊎_, inl, inr}
 use mathlib.Core.Bool.{Bool, true, false}
@@ -37,19 +37,19 @@ use Rattle.runner.proofs.Values.{due-returned, due-back}
 
 -- ---- How the loop was left
 
-module _ (methods : List ℕ) (r : Stopped) (c : Work) where
+module _ (methods : List ℕ) (budget : ℕ) (r : Stopped) (c : Work) where
   -- by whether the entry returned
   abbrev by : Bool → EndedW
-  by t = pick t (finishedW (r .steps) (valueDue c (dueOfByte (methodCell methods (r .row) 26))) c) (haltedW (r .how) (r .steps) c)
+  by t = pick t (finishedW (suc (budget - r .left)) (valueDue c (dueOfByte (methodCell methods (r .row) 26))) c) (haltedW (r .how) (budget - r .left) c)
 
-  pub left-work : endedBy methods r c .work ≡ c
+  pub left-work : endedBy methods budget r c .work ≡ c
   unfolding endedBy pick haltedW finishedW
   left-work = go (eqb (r .how) 1) where
     go : (t : Bool) → by t .work ≡ c
     go true = refl
     go false = refl
 
-  pub left-value : valueOf (valueIn (endedBy methods r c .value)) ≡ endedBy methods r c .value
+  pub left-value : valueOf (valueIn (endedBy methods budget r c .value)) ≡ endedBy methods budget r c .value
   unfolding endedBy pick haltedW finishedW valueIn
   left-value = go (eqb (r .how) 1) where
     go : (t : Bool) → valueOf (valueIn (by t .value)) ≡ by t .value
@@ -57,31 +57,34 @@ module _ (methods : List ℕ) (r : Stopped) (c : Work) where
     go false = refl
 
   module _ (regs : c .regs ≡ lastRegs r) where
-    pub told-over : (v : Value) → r .how ≡ 1
+    pub told-over : (v : Value) (n : ℕ) → n ≡ pick (eqb (r .how) 1) (suc (budget - r .left)) (budget - r .left) → r .how ≡ 1
         → v ≡ valueIn (returned (methodCell methods (r .row) 26) (getD (c .kinds) (r .fp + 24) 0) (getD (c .cells) (r .fp + 24) 0))
         → _≡_ {A = Summary}
-        (record { end = record { number = 0; method = r .row; offset = r .at }; steps = r .steps; value = v; live = 0 })
-        (summed (endedBy methods r c))
+        (record { end = record { number = 0; method = r .row; offset = r .at }; steps = n; value = v; live = 0 })
+        (summed (endedBy methods budget r c))
     unfolding summed endedBy pick finishedW
-    told-over v o e =
+    told-over v n m o e =
         let byte = methodCell methods (r .row) 26 in
         let d : valueDue c (dueOfByte byte) ≡ returned byte (getD (c .kinds) (r .fp + 24) 0) (getD (c .cells) (r .fp + 24) 0) = due-returned c byte ∙ rw regs in
         let z : v ≡ valueIn (valueDue c (dueOfByte byte)) = e ∙ ap valueIn (sym d) in
-        rw (eq-eqb _ _ o, z, regs)
+        let k : n ≡ suc (budget - r .left) = m ∙ rw (eq-eqb _ _ o) in
+        rw (k, eq-eqb _ _ o, z, regs)
 
-    pub told-halted : (r .how ≡ 1 → ⊥)
+    pub told-halted : (n : ℕ) → n ≡ pick (eqb (r .how) 1) (suc (budget - r .left)) (budget - r .left) → (r .how ≡ 1 → ⊥)
         → _≡_ {A = Summary}
-        (record { end = record { number = r .how; method = r .row; offset = r .at }; steps = r .steps; value = None; live = r .fp / 64 + 1 })
-        (summed (endedBy methods r c))
+        (record { end = record { number = r .how; method = r .row; offset = r .at }; steps = n; value = None; live = r .fp / 64 + 1 })
+        (summed (endedBy methods budget r c))
     unfolding summed endedBy pick haltedW valueIn
-    told-halted o = rw (ne-eqb _ _ o, regs, add-one (r .fp / 64))
+    told-halted n m o =
+        let k : n ≡ budget - r .left = m ∙ rw (ne-eqb _ _ o) in
+        rw (k, ne-eqb _ _ o, regs, add-one (r .fp / 64))
 
 -- ---- The work that is left is in range
 
 -- what the loop ensures: from the work `before` on, left with c
 abbrev pub Runs : List ℕ → Loaded → ℕ → Work → Stopped → Work → Type 0
 Runs code L budget before r c =
-    (M : Module) → Fine M → Holds M code L → Good M before → Ends M (L .counts .methods) budget before (endedBy (L .methods) r c)
+    (M : Module) → Fine M → Holds M code L → Good M before → Ends M (L .counts .methods) budget before (endedBy (L .methods) budget r c)
 
 no-types : (M : Module) → length (typesOf M 0) ≡ 0
 unfolding typesOf fieldTypes layout layoutUp
@@ -89,17 +92,17 @@ no-types M = refl
 
 module _ (M : Module) (fin : Fine M) {code : List ℕ} {L : Loaded} (hold : Holds M code L) {budget : ℕ} {before : Work} (begun : Good M before)
     (r : Stopped) (c : Work) (runs : Runs code L budget before r c) where
-  ends : Ends M (L .counts .methods) budget before (endedBy (L .methods) r c)
+  ends : Ends M (L .counts .methods) budget before (endedBy (L .methods) budget r c)
   ends = runs M fin hold begun
 
   good : Good M c
-  good = rw (left-work (L .methods) r c) at (ends .good)
+  good = rw (left-work (L .methods) budget r c) at (ends .good)
 
   bounded : Bounded (L .counts .methods) c
-  bounded = rw (left-work (L .methods) r c) at (ends .bounded)
+  bounded = rw (left-work (L .methods) budget r c) at (ends .bounded)
 
-  lives : (endedBy (L .methods) r c .live ≡ 0) ⊎ (endedBy (L .methods) r c .live ≡ suc (c .regs .fp / 64))
-  lives = rw (left-work (L .methods) r c) at (ends .lives)
+  lives : (endedBy (L .methods) budget r c .live ≡ 0) ⊎ (endedBy (L .methods) budget r c .live ≡ suc (c .regs .fp / 64))
+  lives = rw (left-work (L .methods) budget r c) at (ends .lives)
 
   methods-few : L .counts .methods ≤ 128
   methods-few = let n = fin .methods-few in let e = hold .method-count in omega arith
@@ -139,8 +142,8 @@ module _ (M : Module) (fin : Fine M) {code : List ℕ} {L : Loaded} (hold : Hold
   blank : Blank (c .classes) (c .heap)
   blank = record { no-object = λ r j l e. good .heap .blank r j l (rw e (omega (arith, no-types M))) }
 
-  module _ (s : Summary) (sum : s ≡ summed (endedBy (L .methods) r c)) where
-    live-is : s .live ≡ endedBy (L .methods) r c .live
+  module _ (s : Summary) (sum : s ≡ summed (endedBy (L .methods) budget r c)) where
+    live-is : s .live ≡ endedBy (L .methods) budget r c .live
     unfolding summed
     live-is = ap (λ (t : Summary). t .live) sum
 
@@ -166,16 +169,16 @@ module _ (M : Module) (fin : Fine M) {code : List ℕ} {L : Loaded} (hold : Hold
       handed-back =
           rw (cells-are, kinds-are, heap-is, statics-are) (state-lays M fin code L hold cellBytes staticBytes types c good (s .live) (rw live-is lives))
 
-      exact : endedWith s cells kinds (c .marks) (c .classes) heap statics ≡ told (ended M (endedBy (L .methods) r c))
+      exact : endedWith s cells kinds (c .marks) (c .classes) heap statics ≡ told (ended M (endedBy (L .methods) budget r c))
       unfolding told ended summed
-      exact = rw (handed-back, sum, left-work (L .methods) r c)
+      exact = rw (handed-back, sum, left-work (L .methods) budget r c)
 
       -- where the first work is seen as the machine m
       pub tells : {m : Machine} → view M before ≡ m → Tells (Run.steps lowestFree M budget 0 m) (endedWith s cells kinds (c .marks) (c .classes) heap statics)
       unfolding ended summed
       tells {m} q =
-          let says : ended M (endedBy (L .methods) r c) ≡ Run.steps lowestFree M budget 0 m = ends .says ∙ ap (Run.steps lowestFree M budget 0) q in
+          let says : ended M (endedBy (L .methods) budget r c) ≡ Run.steps lowestFree M budget 0 m = ends .says ∙ ap (Run.steps lowestFree M budget 0) q in
           record {
             exact = exact ∙ ap told says;
-            value = ap (λ (t : Summary). valueOf (t .value)) sum ∙ (left-value (L .methods) r c ∙ ap (λ (z : Run.Ended). z .value) says);
+            value = ap (λ (t : Summary). valueOf (t .value)) sum ∙ (left-value (L .methods) budget r c ∙ ap (λ (z : Run.Ended). z .value) says);
           }

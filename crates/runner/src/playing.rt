@@ -15,7 +15,9 @@ use state::columns::OVER;
 use state::columns::STACK;
 ghost use mathlib.Core.Path.{_≡_};
 ghost use mathlib.Core.Option.{some};
-ghost use Prim.Native.Nat.{_≤_};
+ghost use Prim.Native.Nat.{suc, _-_, _≤_, _<_};
+ghost use lib.Dec.{eqb};
+ghost use Rattle.model.specs.Answer.{pick};
 ghost use Rattle.state.specs.View.{Work, valueBy};
 ghost use Rattle.between_steps.specs.Running.{lentLoaded};
 ghost use Rattle.machine.specs.Ending.{lastRegs, endedBy};
@@ -64,14 +66,32 @@ fn value_due(byte: u8, kind: u8, bits: u64) -> Value
     value_of(kind, bits)
 }
 
+// The steps made: the return from the entry is a step too.
+fn counted(how: u8, budget: u64, left: u64) -> u64
+    requires { ⌜ (left ≤ budget) × (how ≡ 1 → 0 < left) ⌝ }
+    ensures { λ r. ⌜ r ≡ pick (eqb how 1) (suc (budget - left)) (budget - left) ⌝ }
+{
+    if how == OVER {
+        return budget - (left - 1);
+    }
+    budget - left
+}
+
 // What is told of how the loop was left: after a return from the entry no frame is live, and a value stands in the first cell of the entry's stack.
-fn told(r: Stopped, methods: &[u8; 4128], kinds: &[u8; 2048], cells: &[u64; 2048]) -> Summary
-    requires { ⌜ (r .row ≤ 128) × (r .fp ≤ 1984) ⌝ }
+fn told(
+    r: Stopped,
+    budget: u64,
+    methods: &[u8; 4128],
+    kinds: &[u8; 2048],
+    cells: &[u64; 2048],
+) -> Summary
+    requires { ⌜ (r .row ≤ 128) × (r .fp ≤ 1984) ⌝ ∗ ⌜ (r .left ≤ budget) × (r .how ≡ 1 → 0 < r .left) ⌝ }
     ensures { λ s. ⌜ ((c : Work) → c .regs ≡ lastRegs r → c .kinds ≡ now (kinds .entry) → c .cells ≡ now (cells .entry)
-        → s ≡ summed (endedBy (now (methods .entry)) r c)) ⌝ }
+        → s ≡ summed (endedBy (now (methods .entry)) budget r c)) ⌝ }
 {
     let row = r.row;
     let bottom = r.fp + STACK;
+    let steps = counted(r.how, budget, r.left);
     if r.how == OVER {
         let value = value_due(methods[row * METHOD + RETURN], kinds[bottom], cells[bottom]);
         return Summary {
@@ -80,7 +100,7 @@ fn told(r: Stopped, methods: &[u8; 4128], kinds: &[u8; 2048], cells: &[u64; 2048
                 method: row,
                 offset: r.at,
             },
-            steps: r.steps,
+            steps: steps,
             value: value,
             live: 0,
         };
@@ -91,7 +111,7 @@ fn told(r: Stopped, methods: &[u8; 4128], kinds: &[u8; 2048], cells: &[u64; 2048
             method: row,
             offset: r.at,
         },
-        steps: r.steps,
+        steps: steps,
         value: Value::None,
         live: r.fp / FRAME + 1,
     }
@@ -138,7 +158,7 @@ pub fn played(
         begun,
         budget,
     );
-    let s = told(r, methods, kinds, cells);
+    let s = told(r, budget, methods, kinds, cells);
     let mut cell_types = [0u8; 264];
     let mut static_types = [0u8; 64];
     types(counts, parents, fields, &mut cell_types, &mut static_types);

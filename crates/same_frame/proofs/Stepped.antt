@@ -6,24 +6,24 @@ use mathlib.Core.List.{List}
 use native.Mathlib.Omega.{arith}
 use lib.ListN.{length, getD}
 use lib.Dec.{eqb}
-use borrow.Author.Tests.{eq-eqb, ne-eqb, eqb-true, eqb-false}
+use borrow.Author.Tests.{ne-eqb, lt-ltb, le-ltb, eqb-true, eqb-false}
 use Rattle.model.specs.Answer.{bad, ok, _>>=_, pick}
 use Rattle.loaded.specs.Holds.{partLength}
 use Rattle.state.specs.declared.Stay.{Stay}
+use Rattle.state.specs.declared.Gone.{Gone}
 use Rattle.state.specs.View.{Regs, Work}
 use Rattle.state.specs.Order.{Ranges}
-use Rattle.state.specs.Work.{Tables, runs, waits, withRegs, movedTo, stayOf, codeOf, actsW, startW, settle, stepW, EndedW, haltedW}
-use Rattle.state.specs.Meets.{Stays, Topped, Few, Placed, answer, Meets}
+use Rattle.state.specs.Work.{Tables, runs, waits, withRegs, movedTo, stayOf, codeOf, actsW, settle, stepW, EndedW, haltedW}
+use Rattle.state.specs.Meets.{Stays, Topped, Few, Placed, answer}
 use Rattle.in_frame.specs.declared.Tried.{Tried}
 use Rattle.in_frame.specs.Tries.{Reads}
 use Rattle.fields.specs.Members.{FieldRanges}
-use Rattle.rest_group.specs.Rest.{RestRanges}
 use Rattle.crossing.specs.Crossing.{crossing}
-use Rattle.one_step.specs.Told.{Lends, Tells}
+use Rattle.one_step.specs.Told.{RestRanges, Lends, Tells}
 use Rattle.between_steps.specs.Running.{Begins}
 use Rattle.between_steps.proofs.Order.{few, stays, topped, kindly, placed, part-few, part-long, first-few}
 use Rattle.between_steps.proofs.Going.{Going, used, past-end, steps-so, halts, ends-late, again}
-use Rattle.same_frame.specs.Stays.{Place, Leaving, Came, nextBy, howBy, firstBy, stoppedBy}
+use Rattle.same_frame.specs.Stays.{Place, Came, goneBy, nextBy, howBy, firstBy, stoppedBy}
 use Rattle.same_frame.specs.declared.Stayed.{Stayed}
 
 -- ---- What is left of a budget
@@ -53,6 +53,31 @@ rest-ranges r l =
       ranges = subst (λ (f : List ℕ). FieldRanges f) (l .same-fields) (record { owner-few = r .field-owner-few; cell-few = r .cell-few; static-few = r .static-few });
       initialiser-few = subst (λ (f : List ℕ). Few 128 f) (l .same-initialisers) (record { most = λ i. omega (arith, r .initialiser-there i, r .methods-few) });
     }
+
+-- ---- What a step came to
+
+went-on : (t : Tried) (at sp : ℕ) {g : Gone} → g ≡ goneBy t at sp → g .how ≡ 0 → (t .next ≡ 0) × (g ≡ t .gone)
+unfolding goneBy pick
+went-on t at sp {g} q h = go (eqb (t .next) 0) refl
+  where
+    go : (a : Bool) → eqb (t .next) 0 ≡ a → (t .next ≡ 0) × (g ≡ t .gone)
+    go true e = (eqb-true _ _ e, q ∙ rw e refl)
+    go false e =
+        let w : g ≡ record { how = t .next; at = at; sp = sp } = q ∙ rw e refl in
+        absurd (eqb-false _ _ e (sym (ap (λ (x : Gone). x .how) w) ∙ h))
+
+stays-not : (t : Tried) (at sp : ℕ) → t .next ≡ 0 → (goneBy t at sp .how ≡ 0 → ⊥) → t .gone .how ≡ 0 → ⊥
+unfolding goneBy pick
+stays-not t at sp z d h = d (rw z h)
+
+below : {n : ℕ} → n ≤ 7 → (n ≡ 7 → ⊥) → n < 7
+below h d = omega arith
+
+late-enough : {n : ℕ} → 30 < n → 7 ≤ n
+late-enough h = omega arith
+
+late-not : {n : ℕ} → 30 < n → n ≡ 7 → ⊥
+late-not h e = absurd (omega arith)
 
 -- ---- What is asked
 
@@ -106,11 +131,19 @@ module _ {code : List ℕ} {P : Tables} {y : Stay} {part : List ℕ} {most : ℕ
     step-is = steps-so g more within ∙ rw acts-so
 
     module _ (t : Tried) (after : Work) (tells : Tells P part y t c after) where
-      pub goes-on : t .next ≡ 0 → t .gone .how ≡ 0 → Going code P most whole (n + 1) after
+      goes-on : t .next ≡ 0 → t .gone .how ≡ 0 → Going code P most whole (n + 1) after
       unfolding answer pick _>>=_ settle
       goes-on z h =
           let a : actsW P part y c ≡ ok (runs after) = sym (tells .carried z .says) ∙ rw h in
           again g more within (step-is ∙ rw a)
+
+      -- the stay goes on where the step led
+      pub goes-to : after ≡ withRegs after (movedTo (after .regs) (t .gone .at) (t .gone .sp)) → (g : Gone) → g ≡ goneBy t (c .regs .at) (c .regs .sp) → g .how ≡ 0
+          → Going code P most whole (n + 1) (withRegs after (movedTo (after .regs) (g .at) (g .sp)))
+      goes-to e g q h =
+          let m = went-on t (c .regs .at) (c .regs .sp) q h in
+          subst (λ (x : Gone). Going code P most whole (n + 1) (withRegs after (movedTo (after .regs) (x .at) (x .sp)))) (sym (m .1))
+          (subst (λ (w : Work). Going code P most whole (n + 1) w) e (goes-on (m .0) (sym (ap (λ (x : Gone). x .how) (m .1)) ∙ h)))
 
       ended : t .next ≡ 0 → (t .gone .how ≡ 0 → ⊥) → (t .gone .how ≡ 2 → ⊥) → stepW P code c ≡ bad (t .gone .how)
       unfolding answer pick _>>=_
@@ -122,6 +155,9 @@ module _ {code : List ℕ} {P : Tables} {y : Stay} {part : List ℕ} {most : ℕ
       unfolding answer pick
       waited z h = sym (tells .carried z .says) ∙ rw h
 
+      unstarted : (t .next ≡ 0 → ⊥) → t .next ≡ 2 → ⊥
+      unstarted z q = absurd (omega (arith, tells .named z .0, q))
+
       module _ (left : ℕ) (some : 0 < left) (counted : n ≡ most - left) where
         abbrev at-end : ℕ → ℕ → ℕ → Stayed
         at-end next how first = record { next = next; how = how; first = first; at = c .regs .at; sp = c .regs .sp; left = left }
@@ -130,17 +166,17 @@ module _ {code : List ℕ} {P : Tables} {y : Stay} {part : List ℕ} {most : ℕ
         still = subst (λ (k : ℕ). Going code P most whole k c) counted g
 
         -- the step is another function's
-        leaving : (t .next ≡ 0 → ⊥) → Came code P y part most whole (at-end (t .next) 0 0) c
+        leaving : (t .next ≡ 0 → ⊥) → (t .next ≡ 7 → ⊥) → Came code P y part most whole (at-end (t .next) 0 0) c
         unfolding crossing pick
-        leaving z =
-            let s : crossing P part y c (t .next) 0 ≡ (actsW P part y c >>= λ w. settle P c w) = simp (ne-eqb _ _ (tells .unstarted z)) in
+        leaving z u =
+            let s : crossing P part y c (t .next) 0 ≡ (actsW P part y c >>= λ w. settle P c w) = simp (ne-eqb _ _ (unstarted z)) in
             record {
               going = still;
               stops = λ q. absurd (z q);
               late = λ q. absurd (z q);
               leaves = λ _. record {
                 more = some;
-                crosses = record { inside = inside; first-few = λ q. absurd (tells .unstarted z q); opcode = λ _. tells .opcode z };
+                crosses = record { inside = inside; first-few = λ q. absurd (unstarted z q); opcode = λ _. tells .opcode z u };
                 step = step-is ∙ sym s;
               };
             }
@@ -170,25 +206,51 @@ module _ {code : List ℕ} {P : Tables} {y : Stay} {part : List ℕ} {most : ℕ
               leaves = λ q. absurd (q refl);
             }
 
-        came : (t .next ≡ 0 → t .gone .how ≡ 0 → ⊥) → Came code P y part most whole (stoppedBy t (c .regs .at) (c .regs .sp) left) c
-        unfolding nextBy howBy firstBy pick
-        came d = go (eqb (t .next) 0) refl (eqb (t .gone .how) 2) refl
-          where
-            go : (a : Bool) → eqb (t .next) 0 ≡ a → (b : Bool) → eqb (t .gone .how) 2 ≡ b → Came code P y part most whole (stoppedBy t (c .regs .at) (c .regs .sp) left) c
-            go false e b f = rw e (leaving (eqb-false _ _ e))
-            go true e true f = rw (e, f) (waiting (eqb-true _ _ e) (eqb-true _ _ f))
-            go true e false f = rw (e, f) (ending (eqb-true _ _ e) (d (eqb-true _ _ e)) (eqb-false _ _ f))
+        -- it is the last byte, which is no opcode
+        unknown : t .next ≡ 7 → Came code P y part most whole (at-end 0 41 0) c
+        unfolding _>>=_
+        unknown z =
+            let s : stepW P code c ≡ bad 41 = step-is ∙ rw (tells .unknown z) in
+            record {
+              going = still;
+              stops = λ _. subst (λ (m : ℕ). haltedW 41 m c ≡ whole) counted (halts g more within s);
+              late = λ _. omega arith;
+              leaves = λ q. absurd (q refl);
+            }
 
-        as-before : (t .next ≡ 0 → t .gone .how ≡ 0 → ⊥) → after ≡ withRegs c (after .regs)
+        abbrev gone : Gone
+        gone = goneBy t (c .regs .at) (c .regs .sp)
+
+        came : (gone .how ≡ 0 → ⊥) → Came code P y part most whole (stoppedBy gone (c .regs .at) (c .regs .sp) left) c
+        unfolding goneBy nextBy howBy firstBy pick
+        came d = go (eqb (t .next) 0) refl (eqb (t .next) 7) refl (eqb (t .gone .how) 2) refl
+          where
+            go : (a : Bool) → eqb (t .next) 0 ≡ a → (u : Bool) → eqb (t .next) 7 ≡ u → (b : Bool) → eqb (t .gone .how) 2 ≡ b
+                → Came code P y part most whole (stoppedBy gone (c .regs .at) (c .regs .sp) left) c
+            go false e true h b f =
+                let s : t .next ≡ 7 = eqb-true _ _ h in
+                rw (e, s) (unknown s)
+            go false e false h b f =
+                let z = eqb-false _ _ e in
+                rw (e, ne-eqb _ _ (unstarted z), lt-ltb _ _ (below (tells .named z .1) (eqb-false _ _ h))) (leaving z (eqb-false _ _ h))
+            go true e u h true f = rw (e, f) (waiting (eqb-true _ _ e) (eqb-true _ _ f))
+            go true e u h false f =
+                let z = eqb-true _ _ e in
+                let late = ending z (stays-not t (c .regs .at) (c .regs .sp) z d) (eqb-false _ _ f) .late refl in
+                rw (e, f, le-ltb _ _ (late-enough late), ne-eqb _ _ (late-not late)) (ending z (stays-not t (c .regs .at) (c .regs .sp) z d) (eqb-false _ _ f))
+
+        as-before : (gone .how ≡ 0 → ⊥) → after ≡ withRegs c (after .regs)
         as-before d = go (eqb (t .next) 0) refl
           where
             go : (a : Bool) → eqb (t .next) 0 ≡ a → after ≡ withRegs c (after .regs)
             go false e = tells .kept (eqb-false _ _ e)
-            go true e = tells .carried (eqb-true _ _ e) .kept (d (eqb-true _ _ e))
+            go true e = tells .carried (eqb-true _ _ e) .kept (stays-not t (c .regs .at) (c .regs .sp) (eqb-true _ _ e) d)
 
         -- the stay ends where the step began
-        pub ends-here : (t .next ≡ 0 → t .gone .how ≡ 0 → ⊥)
-            → Came code P y part most whole (stoppedBy t (c .regs .at) (c .regs .sp) left) (withRegs after (c .regs))
-        ends-here d =
-            subst (λ (w : Work). Came code P y part most whole (stoppedBy t (c .regs .at) (c .regs .sp) left) w)
-            (sym (ap (λ (w : Work). withRegs w (c .regs)) (as-before d))) (came d)
+        pub ends-here : (g : Gone) → g ≡ gone → (g .how ≡ 0 → ⊥)
+            → Came code P y part most whole (stoppedBy g (c .regs .at) (c .regs .sp) left) (withRegs after (c .regs))
+        ends-here g q d =
+            let n : gone .how ≡ 0 → ⊥ = subst (λ (x : Gone). x .how ≡ 0 → ⊥) q d in
+            subst (λ (x : Gone). Came code P y part most whole (stoppedBy x (c .regs .at) (c .regs .sp) left) (withRegs after (c .regs))) (sym q)
+            (subst (λ (w : Work). Came code P y part most whole (stoppedBy gone (c .regs .at) (c .regs .sp) left) w)
+            (sym (ap (λ (w : Work). withRegs w (c .regs)) (as-before n))) (came n))

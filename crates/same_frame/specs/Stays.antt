@@ -1,10 +1,11 @@
 -- The steps of one stay in a frame: what they begin with, and what they come to.
-use Prim.Native.Nat.{ℕ, _-_, _≤_, _<_}
+use Prim.Native.Nat.{ℕ, _-_, _<_}
 use mathlib.Core.Path.{_≡_}
 use mathlib.Core.List.{List}
-use lib.Dec.{eqb}
+use lib.Dec.{eqb, ltb}
 use Rattle.model.specs.Answer.{pick}
 use Rattle.state.specs.declared.Stay.{Stay}
+use Rattle.state.specs.declared.Gone.{Gone}
 use Rattle.state.specs.View.{Regs, Work}
 use Rattle.state.specs.Work.{Tables, stayOf, codeOf, stepW, EndedW, haltedW}
 use Rattle.in_frame.specs.declared.Tried.{Tried}
@@ -43,15 +44,19 @@ pub record Came (code : List ℕ) (P : Tables) (y : Stay) (part : List ℕ) (bud
   pub late : r .next ≡ 0 → 30 < r .how
   pub leaves : (r .next ≡ 0 → ⊥) → Leaving code P y part r after
 
--- a step that doesn't go on in its frame: another function's, one that an initialiser comes before, or one that ends the run
-unfoldable pub nextBy : Tried → ℕ
-nextBy t = pick (eqb (t .next) 0) (pick (eqb (t .gone .how) 2) 2 0) (t .next)
+-- what a step came to as one number
+unfoldable pub goneBy : Tried → ℕ → ℕ → Gone
+goneBy t at sp = pick (eqb (t .next) 0) (t .gone) (record { how = t .next; at = at; sp = sp })
 
-unfoldable pub howBy : Tried → ℕ
-howBy t = pick (eqb (t .next) 0) (pick (eqb (t .gone .how) 2) 0 (t .gone .how)) 0
+-- a step that doesn't go on in its frame: one that an initialiser comes before, another function's, the last byte, which is no opcode, or one that ends the run
+unfoldable pub nextBy : Gone → ℕ
+nextBy g = pick (eqb (g .how) 2) 2 (pick (ltb (g .how) 7) (g .how) 0)
 
-unfoldable pub firstBy : Tried → ℕ
-firstBy t = pick (eqb (t .next) 0) (pick (eqb (t .gone .how) 2) (t .gone .at) 0) 0
+unfoldable pub howBy : Gone → ℕ
+howBy g = pick (eqb (g .how) 2) 0 (pick (ltb (g .how) 7) 0 (pick (eqb (g .how) 7) 41 (g .how)))
 
-abbrev pub stoppedBy : Tried → ℕ → ℕ → ℕ → Stayed
-stoppedBy t at sp left = record { next = nextBy t; how = howBy t; first = firstBy t; at = at; sp = sp; left = left }
+unfoldable pub firstBy : Gone → ℕ
+firstBy g = pick (eqb (g .how) 2) (g .at) 0
+
+abbrev pub stoppedBy : Gone → ℕ → ℕ → ℕ → Stayed
+stoppedBy g at sp left = record { next = nextBy g; how = howBy g; first = firstBy g; at = at; sp = sp; left = left }

@@ -1,6 +1,9 @@
 // The steps of one stay in a frame: as long as no other frame runs, its method's code, its row and its bottom stay the same.
 use in_frame::Tried;
+use one_step::UNKNOWN;
+use one_step::UNKNOWN_LAST;
 use one_step::step;
+use state::Gone;
 use state::Stay;
 use state::columns::ON;
 use state::columns::START;
@@ -12,7 +15,7 @@ ghost use Rattle.state.specs.Work.{Tables, EndedW};
 ghost use Rattle.fields.specs.Members.{onMember};
 ghost use Rattle.one_step.specs.Told.{Lends};
 ghost use Rattle.between_steps.proofs.Going.{Going};
-ghost use Rattle.same_frame.specs.Stays.{Place, Sits, Came, stoppedBy};
+ghost use Rattle.same_frame.specs.Stays.{Place, Sits, Came, goneBy, stoppedBy};
 
 // The endings of a used budget and of code that ends before the offset.
 const USED: u8 = 38;
@@ -30,13 +33,37 @@ pub struct Stayed {
     pub left: u64,
 }
 
-// A step that doesn't go on in its frame.
-fn stopped(t: Tried, at: usize, sp: usize, left: u64) -> Stayed
-    ensures { λ r. ⌜ r ≡ stoppedBy t at sp left ⌝ }
+// What a step came to as one number, so that the loop asks one question: a step that is another function's is named there.
+fn merged(t: Tried, at: usize, sp: usize) -> Gone
+    ensures { λ r. ⌜ r ≡ goneBy t at sp ⌝ }
 {
     if t.next != 0 {
+        return Gone {
+            how: t.next,
+            at: at,
+            sp: sp,
+        };
+    }
+    t.gone
+}
+
+// A step that doesn't go on in its frame.
+fn stopped(g: Gone, at: usize, sp: usize, left: u64) -> Stayed
+    ensures { λ r. ⌜ r ≡ stoppedBy g at sp left ⌝ }
+{
+    if g.how == START {
         return Stayed {
-            next: t.next,
+            next: START,
+            how: 0,
+            first: g.at,
+            at: at,
+            sp: sp,
+            left: left,
+        };
+    }
+    if g.how < UNKNOWN_LAST {
+        return Stayed {
+            next: g.how,
             how: 0,
             first: 0,
             at: at,
@@ -44,11 +71,11 @@ fn stopped(t: Tried, at: usize, sp: usize, left: u64) -> Stayed
             left: left,
         };
     }
-    if t.gone.how == START {
+    if g.how == UNKNOWN_LAST {
         return Stayed {
-            next: START,
-            how: 0,
-            first: t.gone.at,
+            next: 0,
+            how: UNKNOWN,
+            first: 0,
             at: at,
             sp: sp,
             left: left,
@@ -56,7 +83,7 @@ fn stopped(t: Tried, at: usize, sp: usize, left: u64) -> Stayed
     }
     Stayed {
         next: 0,
-        how: t.gone.how,
+        how: g.how,
         first: 0,
         at: at,
         sp: sp,
@@ -130,14 +157,12 @@ pub fn same_frame(
             class_count,
             field_count,
         );
-        if t.next != 0 {
-            return stopped(t, o, s, left);
+        let g = merged(t, o, s);
+        if g.how != ON {
+            return stopped(g, o, s, left);
         }
-        if t.gone.how != ON {
-            return stopped(t, o, s, left);
-        }
-        o = t.gone.at;
-        s = t.gone.sp;
+        o = g.at;
+        s = g.sp;
         left -= 1;
     }
     Stayed {

@@ -1,52 +1,68 @@
 use borrow.Author.Needs.{needs}
-use Prim.Native.Nat.{ℕ, _+_, _*_}
-use mathlib.Core.Path.{_≡_, ap, _∙_}
+use Prim.Native.Nat.{ℕ, zero, suc, _+_, _≤_, _<_}
 use native.Mathlib.Omega.{arith}
-use lib.ListN.{getD}
-use Rattle.model.specs.Tables.{partOf}
+use Rattle.code.proofs.Parts.{part-none, part-whole}
 use Rattle.machine.proofs.body.Statement.{statement}
 use Rattle.machine.proofs.body.Tie as tie
+
+-- a part that begins inside ends inside, where one that has bytes does
+inside : (from size most : ℕ) → from < most → (0 < size → from + size ≤ most) → from + size ≤ most
+inside from zero most h k = omega arith
+inside from (suc size) most h k = k (omega arith)
 
 mul-at : tie.Need-mul-at
 mul-at c = search needs
 
-add-part : tie.Need-add-part
-add-part c = search needs
+mul-from : tie.Need-mul-from
+mul-from c = search needs
 
-mul-part : tie.Need-mul-part
-mul-part c = search needs
+element-copy-out-from : tie.Need-element-copy-out-from
+element-copy-out-from c = search needs
 
-element-copy-out-part : tie.Need-element-copy-out-part
-element-copy-out-part c = search needs
-
-add-part-2 : tie.Need-add-part-2
-add-part-2 c = search needs
-
-mul-part-2 : tie.Need-mul-part-2
-mul-part-2 c = search needs
-
-element-copy-out-part-2 : tie.Need-element-copy-out-part-2
-element-copy-out-part-2 c = search needs
-
-part-requires : tie.Need-part-requires
-part-requires c κs = search needs
+slice-aggregate-result : tie.Need-slice-aggregate-result
+slice-aggregate-result c = search needs
 
 returns : tie.Need-returns
-returns c =
-    let a = c .before .before .before .before .args in
-    let z : a .row * 2 + 0 ≡ a .row * 2 = omega arith in
-    c .part .ensures ∙ ap (λ (k : ℕ). partOf (a .code .now) (getD (a .parts .now) k 0) (getD (a .parts .now) (a .row * 2 + 1) 0)) z
+returns c = part-none _ _ _ (c .before .if1 .taken)
+
+add-end : tie.Need-add-end
+add-end c = search needs
+
+mul-end : tie.Need-mul-end
+mul-end c = search needs
+
+element-copy-out-end : tie.Need-element-copy-out-end
+element-copy-out-end c = search needs
+
+add-end-2 : tie.Need-add-end-2
+add-end-2 c = let h = inside _ _ _ (c .before .if1 .left) (c .before .before .before .pre .1) in search needs
+
+sub-result : tie.Need-sub-result
+sub-result c = search needs
+
+part-result-start : tie.Need-part-result-start
+part-result-start c = search needs
+
+part-result-end : tie.Need-part-result-end
+part-result-end c = let h = inside _ _ _ (c .before .if1 .left) (c .before .before .before .pre .1) in search needs
+
+returns-2 : tie.Need-returns-2
+returns-2 c = part-whole _ _ _
 
 pub body-spec : {M : Type 1} → statement M
 body-spec =
     tie.close
     (tie.spec
     mul-at
-    add-part
-    mul-part
-    element-copy-out-part
-    add-part-2
-    mul-part-2
-    element-copy-out-part-2
-    part-requires
-    returns)
+    mul-from
+    element-copy-out-from
+    slice-aggregate-result
+    returns
+    add-end
+    mul-end
+    element-copy-out-end
+    add-end-2
+    sub-result
+    part-result-start
+    part-result-end
+    returns-2)

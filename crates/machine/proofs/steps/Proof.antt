@@ -1,5 +1,5 @@
 use Prim.Native.Nat.{ℕ, _+_, _-_, _≤_, _<_}
-use mathlib.Core.Path.{_≡_, refl, sym, ap, subst, _∙_}
+use mathlib.Core.Path.{_≡_, refl, ap, _∙_}
 use mathlib.Core.List.{List}
 use native.Mathlib.Omega.{arith}
 use lib.ListN.{getD}
@@ -15,12 +15,13 @@ use Rattle.state.specs.Meets.{regsOf, Leaves}
 use Rattle.across_frames.specs.Lent.{regsAt, onLeave}
 use Rattle.crossing.specs.Crossing.{crossing}
 use Rattle.between_steps.specs.Running.{lentTables, lentWork, lentLoaded}
-use Rattle.between_steps.proofs.Order.{frame-few, row-few}
+use Rattle.between_steps.proofs.Order.{frame-few, row-few, part-inside}
 use Rattle.between_steps.proofs.Going.{Going}
 use Rattle.same_frame.specs.Stays.{Place, Came}
 use Rattle.same_frame.proofs.Stepped.{moves-in, one-less}
+use Rattle.machine.specs.Ending.{endedBy}
 use Rattle.machine.proofs.Made.{makes, ends, begins-so, from-start}
-use Rattle.machine.proofs.Crossed.{endsWith, halts-with, ended-by, place-of, due-is, asks, goes, stops, less-left, less-going}
+use Rattle.machine.proofs.Crossed.{endsWith, halts-with, place-of, due-is, asks, goes, stops, less-left, less-going}
 use Rattle.machine.proofs.steps.Statement.{statement}
 use Rattle.machine.proofs.steps.Tie as tie
 
@@ -124,7 +125,8 @@ stay-requires c κs =
     let g = c .before .loop .inv .1 .0 (c .loop-test .taken) in (frame-few (g .begins), row-few (g .begins))
 
 body-requires : tie.Need-body-requires Inv-loop μ-loop
-body-requires c κs = row-few (c .before .before .loop .inv .1 .0 (c .before .loop-test .taken) .begins)
+body-requires c κs =
+    let b = c .before .before .loop .inv .1 .0 (c .before .loop-test .taken) .begins in (row-few b, part-inside b)
 
 same-frame-requires : tie.Need-same-frame-requires Inv-loop μ-loop
 same-frame-requires c κs =
@@ -277,16 +279,17 @@ loop-again-3 c =
       ),
     )
 
-counted-requires : tie.Need-counted-requires Inv-loop μ-loop
-counted-requires c κs = (c .before .loop .inv .0, λ e. c .before .loop .inv .1 .1 (c .loop-test .left) .1 e)
-
 returns : tie.Need-returns Inv-loop μ-loop
-unfolding tablesOf
+unfolding tablesOf endedBy endsWith
 returns c =
-    let l = c .before .before in
+    let l = c .before in
     let e = l .before in
-    λ M fin hold good. ends M (start e .args .code .now) (loaded e) (variables e) (ancestors e) (chosen e) fin hold (made e M fin hold) (start e .args .budget) _ good (start e .pre .bounded) _
-    (ended-by _ _ _ _ (c .counted .ensures) ∙ l .loop .inv .1 .1 (c .before .loop-test .left) .0)
+    let x = l .loop .inv .1 .1 (c .loop-test .left) in (
+      (l .loop .inv .0, x .1),
+      λ M fin hold good.
+          ends M (start e .args .code .now) (loaded e) (variables e) (ancestors e) (chosen e) fin hold (made e M fin hold) (start e .args .budget) _ good
+          (start e .pre .bounded) _ (x .0),
+    )
 
 pub steps-spec : {M : Type 1} → statement M
 steps-spec =
@@ -309,5 +312,4 @@ steps-spec =
     loop-again-2
     loop-less-3
     loop-again-3
-    counted-requires
     returns)

@@ -9,7 +9,7 @@ use Rattle.one_step.specs.Told.{Lends}
 use Rattle.between_steps.specs.Running.{Begins}
 use Rattle.between_steps.proofs.Going.{Going, enters}
 use Rattle.same_frame.specs.Stays.{Place}
-use Rattle.same_frame.proofs.Stepped.{more-left, some-left, one-less, moves-in, asks, past, used-up, goes-on, ends-here}
+use Rattle.same_frame.proofs.Stepped.{more-left, some-left, one-less, moves-in, asks, past, used-up, goes-to, ends-here}
 use Rattle.same_frame.proofs.same_frame.Statement.{statement}
 use Rattle.same_frame.proofs.same_frame.Tie as tie
 
@@ -46,60 +46,48 @@ step-requires c κs =
     let l = c .before .before .before .before .before .before .before .before in
     let S = l .before .before .pre in asks (going l) (moves-in _ _ (S .place)) (S .lends) _ (c .before .before .before .before .before .before .if1 .left) (refl, omega (arith, l .before .shared-slice-known .given (l .loop .o)))
 
+merged-requires : tie.Need-merged-requires Inv-loop μ-loop
+merged-requires c κs = tt
+
 stopped-requires : tie.Need-stopped-requires Inv-loop μ-loop
 stopped-requires c κs = tt
 
 returns-2 : tie.Need-returns-2 Inv-loop μ-loop
 returns-2 c =
-    let t = c .before .before .before in
+    let t = c .before .before .before .before in
     let l = t .before .before .before .before .before .before .before .before .before in
     rw (c .stopped .ensures) (
       l .loop .inv .0,
       λ code P w most whole e p h g. ends-here (l .loop .inv .1 code P w most whole e p h g) (moves-in _ _ p)
           (more-left (t .before .before .before .before .before .before .before .before .loop-test .taken) (l .loop .inv .0) h)
           (t .before .before .before .before .before .before .before .if1 .left) _ _ (t .step .ensures .1 P w e) (l .loop .left)
-          (some-left (t .before .before .before .before .before .before .before .before .loop-test .taken)) refl (λ z. absurd (c .before .if2 .taken z)),
-    )
-
-stopped-requires-2 : tie.Need-stopped-requires-2 Inv-loop μ-loop
-stopped-requires-2 c κs = tt
-
-returns-3 : tie.Need-returns-3 Inv-loop μ-loop
-returns-3 c =
-    let t = c .before .before .before .before .before in
-    let l = t .before .before .before .before .before .before .before .before .before in
-    rw (c .stopped2 .ensures) (
-      l .loop .inv .0,
-      λ code P w most whole e p h g. ends-here (l .loop .inv .1 code P w most whole e p h g) (moves-in _ _ p)
-          (more-left (t .before .before .before .before .before .before .before .before .loop-test .taken) (l .loop .inv .0) h)
-          (t .before .before .before .before .before .before .before .if1 .left) _ _ (t .step .ensures .1 P w e) (l .loop .left)
-          (some-left (t .before .before .before .before .before .before .before .before .loop-test .taken)) refl (λ _. c .before .if3 .taken),
+          (some-left (t .before .before .before .before .before .before .before .before .loop-test .taken)) refl _ (c .before .before .before .merged .ensures) (c .before .if2 .taken),
     )
 
 sub-left : tie.Need-sub-left Inv-loop μ-loop
 sub-left c =
-    let t = c .before .before .before .before in some-left (t .before .before .before .before .before .before .before .before .loop-test .taken)
+    let t = c .before .before .before in some-left (t .before .before .before .before .before .before .before .before .loop-test .taken)
 
 loop-less : tie.Need-loop-less Inv-loop μ-loop
 loop-less c =
-    let t = c .before .before .before .before in
+    let t = c .before .before .before in
     let z = some-left (t .before .before .before .before .before .before .before .before .loop-test .taken) in
     omega arith
 
 loop-again : tie.Need-loop-again Inv-loop μ-loop
 loop-again c =
-    let t = c .before .before .before .before in
+    let t = c .before .before .before in
     let l = t .before .before .before .before .before .before .before .before .before in
     let z = some-left (t .before .before .before .before .before .before .before .before .loop-test .taken) in
     let f = l .loop .inv .0 in (
       omega arith,
-      λ code P w most whole e p h g. one-less z f h (goes-on (l .loop .inv .1 code P w most whole e p h g) (moves-in _ _ p)
+      λ code P w most whole e p h g. one-less z f h (goes-to (l .loop .inv .1 code P w most whole e p h g) (moves-in _ _ p)
           (more-left (t .before .before .before .before .before .before .before .before .loop-test .taken) f h)
-          (t .before .before .before .before .before .before .before .if1 .left) _ _ (t .step .ensures .1 P w e) (c .before .before .if2 .left) (c .if3 .left)),
+          (t .before .before .before .before .before .before .before .if1 .left) _ _ (t .step .ensures .1 P w e) refl _ (c .before .before .merged .ensures) (c .if2 .left)),
     )
 
-returns-4 : tie.Need-returns-4 Inv-loop μ-loop
-returns-4 c =
+returns-3 : tie.Need-returns-3 Inv-loop μ-loop
+returns-3 c =
     let l = c .before in
     (omega arith, λ code P w most whole e p h g. used-up (l .loop .inv .1 code P w most whole e p h g) (moves-in _ _ p) (omega (arith, c .loop-test .left)))
 
@@ -113,11 +101,10 @@ same-frame-spec =
     returns
     shared-slice-read-step
     step-requires
+    merged-requires
     stopped-requires
     returns-2
-    stopped-requires-2
-    returns-3
     sub-left
     loop-less
     loop-again
-    returns-4)
+    returns-3)

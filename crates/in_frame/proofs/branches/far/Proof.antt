@@ -1,6 +1,7 @@
 use borrow.Author.Needs.{needs}
 use mathlib.Core.Path.{refl}
 use Rattle.code.proofs.There.{there, cut}
+use Rattle.in_frame.specs.Tries.{four-bytes}
 use Rattle.in_frame.proofs.Branching.{far-cut, far-goes}
 use Rattle.in_frame.proofs.Answers.{instead}
 use Rattle.in_frame.proofs.branches.far.Statement.{statement}
@@ -22,7 +23,7 @@ four-after-requires : tie.Need-four-after-requires
 four-after-requires c κs = there (c .before .whole .ensures) (c .if1 .left)
 
 led-requires : tie.Need-led-requires
-led-requires c κs = search needs
+led-requires c κs = (four-bytes, search needs, search needs)
 
 branch-requires : tie.Need-branch-requires
 branch-requires c κs = search needs

@@ -1,6 +1,7 @@
 use borrow.Author.Needs.{needs}
 use mathlib.Core.Path.{refl}
 use Rattle.code.proofs.There.{there, cut}
+use Rattle.in_frame.specs.Tries.{one-byte}
 use Rattle.in_frame.proofs.Branching.{near-cut, near-goes}
 use Rattle.in_frame.proofs.Answers.{instead}
 use Rattle.in_frame.proofs.branches.near.Statement.{statement}
@@ -22,7 +23,7 @@ byte-after-requires : tie.Need-byte-after-requires
 byte-after-requires c κs = there (c .before .whole .ensures) (c .if1 .left)
 
 led-requires : tie.Need-led-requires
-led-requires c κs = search needs
+led-requires c κs = (one-byte, search needs, search needs)
 
 branch-requires : tie.Need-branch-requires
 branch-requires c κs = search needs

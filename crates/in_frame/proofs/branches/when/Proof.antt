@@ -85,7 +85,7 @@ on-requires-3 c κs = search needs
 
 returns-4 : tie.Need-returns-4
 unfolding goto pick
-returns-4 c = rw (c .on3 .ensures) (search needs, λ s. when-goes _ _ _ _ _ (c .before .before .before .before .before .before .before .before .before .before .before .before .if1 .left) {t = true} (sym (ap says (c .before .before .before .said .given .1) ∙ rw (c .before .if4 .taken)) ∙ c .before .before .before .before .before .related .ensures (c .before .before .before .before .before .before .before .before .before .before .before .before .before .before .pre .1 .1 .most _) (c .before .before .before .before .before .before .before .before .before .before .before .before .before .before .pre .1 .1 .most _)))
+returns-4 c = rw (c .on3 .ensures) (search needs, λ s. when-goes _ _ _ _ _ (c .before .before .before .before .before .before .before .before .before .before .before .before .if1 .left) {t = true} (sym (ap says (c .before .before .before .said .given .1) ∙ rw (c .before .if4 .taken)) ∙ c .before .before .before .before .before .related .ensures _ _ (c .before .before .before .before .before .before .before .before .before .before .before .before .before .before .pre .1 .1 .most _) (c .before .before .before .before .before .before .before .before .before .before .before .before .before .before .pre .1 .1 .most _) (c .before .before .before .before .before .before .before .before .before .both .ensures) (c .before .before .before .before .before .before .before .before .if2 .left)))
 
 on-requires-4 : tie.Need-on-requires-4
 on-requires-4 c κs = search needs
@@ -98,10 +98,10 @@ ends-requires-2 c κs = search needs
 
 returns-5 : tie.Need-returns-5
 unfolding goto pick
-returns-5 c = rw (c .on4 .ensures) (search needs, λ s. when-goes _ _ _ _ _ (c .before .before .before .before .before .before .before .before .before .before .before .before .if1 .left) {t = false} (sym (ap says (c .before .before .before .said .given .1) ∙ rw (c .before .if4 .left)) ∙ c .before .before .before .before .before .related .ensures (c .before .before .before .before .before .before .before .before .before .before .before .before .before .before .pre .1 .1 .most _) (c .before .before .before .before .before .before .before .before .before .before .before .before .before .before .pre .1 .1 .most _)))
+returns-5 c = rw (c .on4 .ensures) (search needs, λ s. when-goes _ _ _ _ _ (c .before .before .before .before .before .before .before .before .before .before .before .before .if1 .left) {t = false} (sym (ap says (c .before .before .before .said .given .1) ∙ rw (c .before .if4 .left)) ∙ c .before .before .before .before .before .related .ensures _ _ (c .before .before .before .before .before .before .before .before .before .before .before .before .before .before .pre .1 .1 .most _) (c .before .before .before .before .before .before .before .before .before .before .before .before .before .before .pre .1 .1 .most _) (c .before .before .before .before .before .before .before .before .before .both .ensures) (c .before .before .before .before .before .before .before .before .if2 .left)))
 
 returns-6 : tie.Need-returns-6
-returns-6 c = rw (c .ends2 .ensures) (search needs, λ s. when-wrong _ _ _ _ _ (c .before .before .before .before .before .before .before .before .before .before .if1 .left) (sym (ap says (c .before .enum-told .given .1)) ∙ c .before .before .before .related .ensures (c .before .before .before .before .before .before .before .before .before .before .before .before .pre .1 .1 .most _) (c .before .before .before .before .before .before .before .before .before .before .before .before .pre .1 .1 .most _)))
+returns-6 c = rw (c .ends2 .ensures) (search needs, λ s. when-wrong _ _ _ _ _ (c .before .before .before .before .before .before .before .before .before .before .if1 .left) (sym (ap says (c .before .enum-told .given .1)) ∙ c .before .before .before .related .ensures _ _ (c .before .before .before .before .before .before .before .before .before .before .before .before .pre .1 .1 .most _) (c .before .before .before .before .before .before .before .before .before .before .before .before .pre .1 .1 .most _) (c .before .before .before .before .before .before .before .both .ensures) (c .before .before .before .before .before .before .if2 .left)))
 
 pub when-spec : {M : Type 1} → statement M
 when-spec =

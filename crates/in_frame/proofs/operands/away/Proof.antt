@@ -3,27 +3,11 @@ use Rattle.in_frame.proofs.Signed.{wrapped}
 use Rattle.in_frame.proofs.operands.away.Statement.{statement}
 use Rattle.in_frame.proofs.operands.away.Tie as tie
 
-add-wrapping-sub-u64 : tie.Need-add-wrapping-sub-u64
-add-wrapping-sub-u64 c = search needs
-
-add-wrapping-sub-u64-2 : tie.Need-add-wrapping-sub-u64-2
-add-wrapping-sub-u64-2 c = search needs
-
-rem-wrapping-sub-u64 : tie.Need-rem-wrapping-sub-u64
-rem-wrapping-sub-u64 c = search needs
-
 wrapping-sub-u64-requires : tie.Need-wrapping-sub-u64-requires
 wrapping-sub-u64-requires c κs = search needs
 
 returns : tie.Need-returns
-returns c = wrapped _ _ (c .before .pre .0) (c .before .pre .1) (c .before .pre .2) _ (search needs) (c .wrapping-sub-u64 .ensures)
+returns c = wrapped _ _ (c .before .pre .0) (c .before .pre .1) _ (search needs) (c .wrapping-sub-u64 .ensures)
 
 pub away-spec : {M : Type 1} → statement M
-away-spec =
-    tie.close
-    (tie.spec
-    add-wrapping-sub-u64
-    add-wrapping-sub-u64-2
-    rem-wrapping-sub-u64
-    wrapping-sub-u64-requires
-    returns)
+away-spec = tie.close (tie.spec wrapping-sub-u64-requires returns)

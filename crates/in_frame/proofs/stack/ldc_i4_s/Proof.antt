@@ -1,5 +1,6 @@
 use borrow.Author.Needs.{needs}
 use Rattle.code.proofs.There.{there, cut}
+use Rattle.in_frame.specs.Tries.{one-byte}
 use Rattle.in_frame.proofs.Answers.{instead}
 use Rattle.in_frame.proofs.Constants.{i4-s-cut, i4-s-does}
 use Rattle.in_frame.proofs.Signed.{narrowed}
@@ -19,7 +20,7 @@ byte-after-requires : tie.Need-byte-after-requires
 byte-after-requires c κs = there (c .before .whole .ensures) (c .if1 .left)
 
 away-requires : tie.Need-away-requires
-away-requires c κs = search needs
+away-requires c κs = (one-byte, search needs)
 
 add-push : tie.Need-add-push
 add-push c = search needs

@@ -33,7 +33,7 @@ enum-known-said c = search needs
 returns-3 : tie.Need-returns-3
 unfolding flag
 returns-3 c =
-    λ h l. compare-says _ _ _ _ _ {t = true} (sym (ap says (c .before .before .said .given .1) ∙ rw (c .if3 .taken)) ∙ c .before .before .before .before .related .ensures h l)
+    λ h l. compare-says _ _ _ _ _ {t = true} (sym (ap says (c .before .before .said .given .1) ∙ rw (c .if3 .taken)) ∙ c .before .before .before .before .related .ensures _ _ h l (omega arith) (λ z. omega arith))
 
 enum-told : tie.Need-enum-told
 enum-told c = search needs
@@ -41,11 +41,11 @@ enum-told c = search needs
 returns-4 : tie.Need-returns-4
 unfolding flag
 returns-4 c =
-    λ h l. compare-says _ _ _ _ _ {t = false} (sym (ap says (c .before .before .said .given .1) ∙ rw (c .if3 .left)) ∙ c .before .before .before .before .related .ensures h l)
+    λ h l. compare-says _ _ _ _ _ {t = false} (sym (ap says (c .before .before .said .given .1) ∙ rw (c .if3 .left)) ∙ c .before .before .before .before .related .ensures _ _ h l (omega arith) (λ z. omega arith))
 
 returns-5 : tie.Need-returns-5
 returns-5 c =
-    λ h l. compare-wrong _ _ _ _ _ (sym (ap says (c .enum-told .given .1)) ∙ c .before .before .related .ensures h l)
+    λ h l. compare-wrong _ _ _ _ _ (sym (ap says (c .enum-told .given .1)) ∙ c .before .before .related .ensures _ _ h l (omega arith) (λ z. omega arith))
 
 pub compare-spec : {M : Type 1} → statement M
 compare-spec =

@@ -18,9 +18,6 @@ returns : tie.Need-returns
 returns c =
     λ h l. c .tagged .ensures ∙ number-bits _ _ _ _ h l narrow (c .before .before .before .before .fits .a .fits) (c .before .before .before .before .fits .b .fits) (omega arith) _ (c .before .number-bits .ensures)
 
-both-requires-2 : tie.Need-both-requires-2
-both-requires-2 c κs = search needs
-
 number-bits-requires-2 : tie.Need-number-bits-requires-2
 number-bits-requires-2 c κs = search needs
 
@@ -31,18 +28,19 @@ returns-2 : tie.Need-returns-2
 returns-2 c =
     λ h l. c .tagged2 .ensures ∙ number-bits _ _ _ _ h l wide (c .before .before .before .before .before .before .fits .a .fits) (c .before .before .before .before .before .before .fits .b .fits) (omega arith) _ (c .before .number-bits2 .ensures)
 
-both-requires-3 : tie.Need-both-requires-3
-both-requires-3 c κs = search needs
+returns-3 : tie.Need-returns-3
+returns-3 c =
+    λ h l. number-wrong _ _ _ _ h l _ (λ z. omega arith) (λ z. omega arith) (λ z. omega arith)
 
 number-real-requires : tie.Need-number-real-requires
 number-real-requires c κs = search needs
 
-returns-3 : tie.Need-returns-3
-returns-3 c =
-    λ h l. number-real _ _ _ _ h l _ (omega arith) (c .number-real .ensures)
-
 returns-4 : tie.Need-returns-4
 returns-4 c =
+    λ h l. number-real _ _ _ _ h l _ (omega arith) (c .number-real .ensures)
+
+returns-5 : tie.Need-returns-5
+returns-5 c =
     λ h l. number-wrong _ _ _ _ h l _ (λ z. omega arith) (λ z. omega arith) (λ z. omega arith)
 
 pub number-spec : {M : Type 1} → statement M
@@ -53,11 +51,10 @@ number-spec =
     number-bits-requires
     tagged-requires
     returns
-    both-requires-2
     number-bits-requires-2
     tagged-requires-2
     returns-2
-    both-requires-3
-    number-real-requires
     returns-3
-    returns-4)
+    number-real-requires
+    returns-4
+    returns-5)

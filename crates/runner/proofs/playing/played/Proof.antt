@@ -22,7 +22,7 @@ told-requires : tie.Need-told-requires
 told-requires c κs =
     let a = c .before .before in
     let q = steps-requires (a .before) (a .steps .lifetimes) in
-    in-arrays (q .module-is) (q .fine) (q .holds) (q .good) _ _ (a .steps .ensures)
+    (in-arrays (q .module-is) (q .fine) (q .holds) (q .good) _ _ (a .steps .ensures .1), a .steps .ensures .0)
 
 types-requires : tie.Need-types-requires
 types-requires c κs = search needs
@@ -32,7 +32,7 @@ tidy-requires c κs =
     let o = c .before .before .before .before .before .before .before .before .before .before in
     let a = o .before .before .before in
     let q = steps-requires (a .before) (a .steps .lifetimes) in
-    tidy-asks (q .module-is) (q .fine) (q .holds) (q .good) _ _ (a .steps .ensures) _ (o .told .ensures _ refl refl refl)
+    tidy-asks (q .module-is) (q .fine) (q .holds) (q .good) _ _ (a .steps .ensures .1) _ (o .told .ensures _ refl refl refl)
 
 returns : tie.Need-returns
 unfolding laid Plays
@@ -47,7 +47,7 @@ returns c =
     let first-good = good-first M fin hold given begun in
     let types = t .types .ensures M _ _ fin hold refl refl refl in
     let e = c .tidy .ensures in
-    tells M fin hold first-good _ _ (a .steps .ensures) _ (o .told .ensures _ refl refl refl) types (e .0) (e .1 .0) (e .1 .1 .0) (e .1 .1 .1)
+    tells M fin hold first-good _ _ (a .steps .ensures .1) _ (o .told .ensures _ refl refl refl) types (e .0) (e .1 .0) (e .1 .1 .0) (e .1 .1 .1)
     (seen-first M fin hold given begun vs words admitted)
 
 pub played-spec : {M : Type 1} → statement M

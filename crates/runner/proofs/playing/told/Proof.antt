@@ -6,6 +6,9 @@ use Rattle.runner.proofs.playing.told.Tie as tie
 add-bottom : tie.Need-add-bottom
 add-bottom c = search needs
 
+counted-requires : tie.Need-counted-requires
+counted-requires c κs = c .before .pre .1
+
 mul-value-due : tie.Need-mul-value-due
 mul-value-due c = search needs
 
@@ -28,19 +31,22 @@ value-due-requires : tie.Need-value-due-requires
 value-due-requires c κs = search needs
 
 returns : tie.Need-returns
-returns c = λ w regs kinds cells. told-over _ _ w regs _ (c .before .before .before .before .if1 .taken) (rw (kinds, cells) (c .value-due .ensures))
+returns c =
+    let t = c .before .before .before .before in
+    λ w regs kinds cells. told-over _ _ _ w regs _ _ (t .before .before .counted .ensures) (t .if1 .taken) (rw (kinds, cells) (c .value-due .ensures))
 
-add-t25 : tie.Need-add-t25
-add-t25 c = search needs
+add-t27 : tie.Need-add-t27
+add-t27 c = search needs
 
 returns-2 : tie.Need-returns-2
-returns-2 c = λ w regs kinds cells. told-halted _ _ w regs (c .before .if1 .left)
+returns-2 c = λ w regs kinds cells. told-halted _ _ _ w regs _ (c .before .before .before .counted .ensures) (c .before .if1 .left)
 
 pub told-spec : {M : Type 1} → statement M
 told-spec =
     tie.close
     (tie.spec
     add-bottom
+    counted-requires
     mul-value-due
     add-value-due
     element-copy-out-value-due
@@ -49,5 +55,5 @@ told-spec =
     element-copy-out-value-due-3
     value-due-requires
     returns
-    add-t25
+    add-t27
     returns-2)

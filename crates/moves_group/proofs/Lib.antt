@@ -1,3 +1,0 @@
--- Laws that the proof of the group cites.
-pub mod Opcodes
-pub mod Arms

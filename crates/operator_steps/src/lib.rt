@@ -1,0 +1,2 @@
+// Operators as steps.
+pub mod operations; // by the number of operands

@@ -1,2 +1,0 @@
--- What the contract of the group speaks of.
-pub mod Rest
