@@ -1,4 +1,4 @@
--- The ancestor test goes from row to parent row. Assumes nothing.
+-- The ancestor test goes from row to parent row.
 use mathlib.Core.Path.{_≡_, refl, sym, ap, _∙_}
 use Prim.Native.Nat.{ℕ, zero, suc, _≤_, _<_}
 use mathlib.Core.Bool.{Bool, true, false, _||_}

@@ -1,5 +1,4 @@
 -- A product modulo k * k by halves below k.
--- Assumes nothing.
 use mathlib.Core.Path.{_≡_, sym, ap, _∙_}
 use Prim.Native.Nat.{ℕ, _+_, _*_, _/_, _%_, _<_}
 use native.Mathlib.Nat.{lt-of-le-of-lt, le-of-lt, mul-le-mul-left, mul-lt-mul-of-pos-right, div-add-mod', mul-comm, mul-assoc, add-mul, mul-add, add-mod-mod, mul-left-comm}

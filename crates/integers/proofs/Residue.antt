@@ -1,5 +1,4 @@
 -- The residue of a whole number modulo n keeps sums, negation and products, for every modulus.
--- Assumes nothing.
 use mathlib.Core.Path.{_≡_, sym, ap, _∙_}
 use Prim.Native.Nat.{ℕ, zero, suc, _+_, _-_, _*_, _/_, _%_, _<_, _≤_}
 use mathlib.Core.Bool.{Bool, true, false, not, cond}

@@ -1,5 +1,4 @@
 -- Every integer operator gives bits of its width, and each comparison is one of five with its operands in one order or the other.
--- Assumes nothing.
 use mathlib.Core.Path.{_≡_, refl, subst}
 use mathlib.Core.Bool.{Bool, true, false, not}
 use Prim.Native.Nat.{ℕ, suc, _-_, _*_, _%_, _^_, _<_}

@@ -1,5 +1,4 @@
 -- Shifts by the bits of the amount that count.
--- Assumes nothing.
 use mathlib.Core.Path.{_≡_, sym, ap, _∙_}
 use mathlib.Core.Bool.{Bool, true, false}
 use Prim.Native.Nat.{ℕ, _*_, _/_, _%_, _^_, _<_}

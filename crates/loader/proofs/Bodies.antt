@@ -1,4 +1,4 @@
--- Which record a kind's bytes are. Assumes nothing.
+-- Which record a kind's bytes are.
 use mathlib.Core.Path.{_≡_, refl, sym, ap, _∙_, subst}
 use Prim.Native.Nat.{ℕ, zero, suc, _+_, _≤_, _<_}
 use mathlib.Core.Bool.{Bool, true, false}

@@ -1,4 +1,4 @@
--- Classes: parents fall, the ancestor test goes from row to parent row, and a class's record keeps what stands. Assumes nothing.
+-- Classes: parents fall, the ancestor test goes from row to parent row, and a class's record keeps what stands.
 use mathlib.Core.Path.{_≡_, refl, sym, ap, _∙_, subst}
 use Prim.Native.Nat.{ℕ, zero, suc, _+_, _≤_, _<_}
 use mathlib.Core.Bool.{Bool, true, false, _||_}

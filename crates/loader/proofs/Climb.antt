@@ -1,4 +1,4 @@
--- One step up, from a row to its parent's, as the arrays show it; and small facts of the code's own steps. Assumes nothing.
+-- One step up, from a row to its parent's, as the arrays show it; and small facts of the code's own steps.
 use mathlib.Core.Path.{_≡_, refl, sym, ap, _∙_, subst}
 use Prim.Native.Nat.{ℕ, zero, suc, _+_, _*_, _≤_, _<_}
 use mathlib.Core.Bool.{Bool, true, false, not}

@@ -1,4 +1,4 @@
--- What loading answers after the records, and what a loaded module holds. Assumes nothing.
+-- What loading answers after the records, and what a loaded module holds.
 use mathlib.Core.Path.{_≡_, refl, sym, ap, _∙_, subst}
 use Prim.Native.Nat.{ℕ, zero, suc, _+_, _-_, _*_, _≤_, _<_}
 use mathlib.Core.Bool.{Bool, false, _&&_}

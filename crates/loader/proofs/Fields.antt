@@ -1,4 +1,4 @@
--- Fields: a later field of no smaller owner moves no earlier slot, and a field's record keeps what stands. Assumes nothing.
+-- Fields: a later field of no smaller owner moves no earlier slot, and a field's record keeps what stands.
 use mathlib.Core.Path.{_≡_, refl, sym, ap, _∙_, subst}
 use Prim.Native.Nat.{ℕ, zero, suc, _+_, _-_, _*_, _≤_, _<_}
 use mathlib.Core.Bool.{Bool, true, false, not, _&&_}

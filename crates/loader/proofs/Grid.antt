@@ -1,4 +1,4 @@
--- Arrays of rows: a store in one row and column leaves every other row and column as it was. Assumes nothing.
+-- Arrays of rows: a store in one row and column leaves every other row and column as it was.
 use mathlib.Core.Path.{_≡_, refl, sym, ap, _∙_, subst}
 use Prim.Native.Nat.{ℕ, _+_, _*_, _≤_, _<_}
 use mathlib.Core.Bool.{Bool, true, false}

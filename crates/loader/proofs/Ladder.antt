@@ -1,4 +1,4 @@
--- The tests of a record one after the other, beside the number of the first that fails; and what a test says. Assumes nothing.
+-- The tests of a record one after the other, beside the number of the first that fails; and what a test says.
 use mathlib.Core.Path.{_≡_, refl, sym, ap, _∙_, subst}
 use Prim.Native.Nat.{ℕ, zero, suc, _+_, _-_, _≤_, _<_}
 use mathlib.Core.Bool.{Bool, true, false, not, _&&_}

@@ -1,4 +1,4 @@
--- The records behind a method's: a parameter's, a local's and the entry's keep what stands. Assumes nothing.
+-- The records behind a method's: a parameter's, a local's and the entry's keep what stands.
 use mathlib.Core.Path.{_≡_, refl, sym, ap, _∙_, subst}
 use Prim.Native.Nat.{ℕ, _+_, _*_, _≤_, _<_}
 use mathlib.Core.Bool.{Bool, true, false, not}

@@ -1,4 +1,4 @@
--- A method's record keeps what stands. Assumes nothing.
+-- A method's record keeps what stands.
 use mathlib.Core.Path.{_≡_, refl, sym, ap, _∙_, subst}
 use Prim.Native.Nat.{ℕ, zero, suc, _+_, _*_, _≤_, _<_}
 use mathlib.Core.Bool.{Bool, true, false, not, _&&_, _||_}

@@ -1,4 +1,4 @@
--- Methods: what a new method, or a change of the last one, does to rows, roots, initialisers and columns. Assumes nothing.
+-- Methods: what a new method, or a change of the last one, does to rows, roots, initialisers and columns.
 use mathlib.Core.Path.{_≡_, refl, sym, ap, _∙_, subst}
 use Prim.Native.Nat.{ℕ, zero, suc, _+_, _-_, _≤_, _<_}
 use mathlib.Core.Bool.{Bool, true, false, _&&_}

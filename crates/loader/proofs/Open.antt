@@ -1,4 +1,4 @@
--- What a record's number being 0 says of its bytes and counts. Assumes nothing.
+-- What a record's number being 0 says of its bytes and counts.
 use mathlib.Core.Path.{_≡_, refl, sym, _∙_, subst}
 use Prim.Native.Nat.{ℕ, suc, _≤_, _<_}
 use mathlib.Core.Bool.{Bool, true, false, _&&_}

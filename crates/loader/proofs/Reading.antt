@@ -1,4 +1,4 @@
--- Record after record: what is still to be read, and how reading ends. Assumes nothing.
+-- Record after record: what is still to be read, and how reading ends.
 use mathlib.Core.Path.{_≡_, refl, sym, ap, _∙_, subst}
 use Prim.Native.Nat.{ℕ, zero, suc, _+_, _-_, _*_, _≤_, _<_}
 use mathlib.Core.Bool.{Bool, true, false, _&&_}

@@ -1,4 +1,4 @@
--- Rows of a list that grows at its end or has its last element changed, and an array beside it. Assumes nothing.
+-- Rows of a list that grows at its end or has its last element changed, and an array beside it.
 use mathlib.Core.Path.{_≡_, refl, sym, ap, _∙_, subst}
 use Prim.Native.Nat.{ℕ, zero, suc, _+_, _≤_, _<_}
 use mathlib.Core.Bool.{Bool, true, false}

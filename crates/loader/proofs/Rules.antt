@@ -1,4 +1,4 @@
--- The rules between records, as tests on the arrays. Assumes nothing.
+-- The rules between records, as tests on the arrays.
 use mathlib.Core.Path.{_≡_, refl, sym, ap, _∙_, subst}
 use Prim.Native.Nat.{ℕ, suc, _+_, _*_, _≤_, _<_}
 use mathlib.Core.Bool.{Bool, true, false, not, _&&_, _||_}

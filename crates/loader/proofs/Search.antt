@@ -1,4 +1,4 @@
--- Searches over rows, one row at a time; lists of types beside their cells. Assumes nothing.
+-- Searches over rows, one row at a time; lists of types beside their cells.
 use mathlib.Core.Path.{_≡_, refl, sym, ap, _∙_, subst}
 use Prim.Native.Nat.{ℕ, zero, suc, _+_, _≤_, _<_}
 use mathlib.Core.Bool.{Bool, true, false, _&&_, _||_}

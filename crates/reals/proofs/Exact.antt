@@ -1,5 +1,4 @@
 -- Every int32 is a double.
--- Assumes nothing.
 use mathlib.Core.Path.{_≡_, sym, subst}
 use Prim.Native.Nat.{ℕ, _<_, _%_, _^_}
 use native.Mathlib.Omega.{arith}

@@ -1,5 +1,4 @@
 -- Which bits and which floats are NaNs, as the code tests it.
--- Assumes nothing.
 use mathlib.Core.Path.{_≡_, refl, sym, _∙_, subst}
 use mathlib.Core.Bool.{Bool, true, false, not}
 use Prim.Native.Nat.{ℕ, _<_, _≤_, _%_, _^_}

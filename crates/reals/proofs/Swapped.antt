@@ -1,5 +1,4 @@
 -- Four of the comparisons are others with their operands swapped.
--- Assumes nothing.
 use mathlib.Core.Path.{_≡_, refl}
 use lib.Ieee.{Float}
 use Rattle.model.specs.Code.{lt, le, gt, ge, lt-un, le-un, gt-un, ge-un}

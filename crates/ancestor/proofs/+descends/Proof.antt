@@ -1,4 +1,4 @@
--- `descends` meets its contract. Assumes nothing.
+-- `descends` meets its contract.
 use native.Mathlib.Omega.{arith}
 use mathlib.Core.Path.{_∙_, subst}
 use borrow.Author.Needs.{needs}

@@ -1,4 +1,4 @@
--- `loader::load` meets its contract. Assumes nothing.
+-- `loader::load` meets its contract.
 use borrow.Author.Needs.{needs}
 use mathlib.Core.Path.{refl}
 use Rattle.loader.proofs.Ends.{answers-refused, answers-loaded}

@@ -1,4 +1,4 @@
--- `loader::load_into` meets its contract. Assumes nothing.
+-- `loader::load_into` meets its contract.
 use native.Mathlib.Omega.{arith}
 use borrow.Author.Needs.{needs}
 use mathlib.Core.Path.{refl, ap, _∙_}

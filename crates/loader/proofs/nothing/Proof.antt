@@ -1,4 +1,4 @@
--- `loader::nothing` meets its contract. Assumes nothing.
+-- `loader::nothing` meets its contract.
 use mathlib.Core.Path.{refl}
 use Rattle.loader.specs.Answers.{noCounts, nothing}
 use Rattle.loader.proofs.nothing.Statement.{statement}

@@ -1,4 +1,4 @@
--- `loader::refused` meets its contract. Assumes nothing.
+-- `loader::refused` meets its contract.
 use mathlib.Core.Path.{refl}
 use Rattle.loader.specs.Answers.{faultOf, noCounts, refusedOf}
 use Rattle.loader.proofs.refused.Statement.{statement}

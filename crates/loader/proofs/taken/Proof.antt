@@ -1,4 +1,4 @@
--- `loader::taken` meets its contract. Assumes nothing.
+-- `loader::taken` meets its contract.
 use mathlib.Core.Path.{refl}
 use Rattle.loader.specs.Answers.{noFault, takenOf}
 use Rattle.loader.proofs.taken.Statement.{statement}

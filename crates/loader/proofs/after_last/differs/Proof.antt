@@ -1,4 +1,4 @@
--- `loader::after_last::differs` meets its contract. Assumes nothing.
+-- `loader::after_last::differs` meets its contract.
 use native.Mathlib.Omega.{arith}
 use borrow.Author.Needs.{needs}
 use mathlib.Core.Path.{_≡_, sym, ap, _∙_, subst}

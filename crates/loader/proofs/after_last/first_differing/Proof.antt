@@ -1,4 +1,4 @@
--- `loader::after_last::first_differing` meets its contract. Assumes nothing.
+-- `loader::after_last::first_differing` meets its contract.
 use native.Mathlib.Omega.{arith}
 use mathlib.Core.Path.{_≡_, refl, sym, ap, _∙_}
 use mathlib.Core.Option.{Option}

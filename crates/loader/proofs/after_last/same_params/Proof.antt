@@ -1,4 +1,4 @@
--- `loader::after_last::same_params` meets its contract. Assumes nothing.
+-- `loader::after_last::same_params` meets its contract.
 use native.Mathlib.Omega.{arith}
 use mathlib.Core.Path.{_≡_, refl, sym, _∙_}
 use mathlib.Core.List.{List}

@@ -1,4 +1,4 @@
--- `loader::class::class_number` meets its contract. Assumes nothing.
+-- `loader::class::class_number` meets its contract.
 use Rattle.loader.specs.Numbers.{classNumber}
 use Rattle.model.specs.Answer.{pick}
 use mathlib.Core.Path.{sym, _∙_}

@@ -1,4 +1,4 @@
--- `loader::class::class_record` meets its contract. Assumes nothing.
+-- `loader::class::class_record` meets its contract.
 use native.Mathlib.Omega.{arith}
 use mathlib.Core.Path.{sym, _∙_}
 use Rattle.loader.proofs.Open.{refuse, accept, class-open}

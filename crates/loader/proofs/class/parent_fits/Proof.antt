@@ -1,4 +1,4 @@
--- `loader::class::parent_fits` meets its contract. Assumes nothing.
+-- `loader::class::parent_fits` meets its contract.
 use Rattle.model.specs.Loading.{parentFits}
 use Rattle.model.specs.Answer.{pick}
 use borrow.Author.Tests.{eq-eqb, ne-eqb}

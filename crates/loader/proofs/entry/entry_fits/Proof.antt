@@ -1,4 +1,4 @@
--- `loader::entry::entry_fits` meets its contract. Assumes nothing.
+-- `loader::entry::entry_fits` meets its contract.
 use native.Mathlib.Omega.{arith}
 use Rattle.model.specs.Tables.{arguments, methodAt}
 use Rattle.loader.specs.Rules.{EntryRule}

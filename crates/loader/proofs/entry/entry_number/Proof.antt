@@ -1,4 +1,4 @@
--- `loader::entry::entry_number` meets its contract. Assumes nothing.
+-- `loader::entry::entry_number` meets its contract.
 use Rattle.loader.specs.Numbers.{entryNumber}
 use Rattle.model.specs.Answer.{pick}
 use mathlib.Core.Path.{sym, _∙_}

@@ -1,4 +1,4 @@
--- `loader::entry::entry_record` meets its contract. Assumes nothing.
+-- `loader::entry::entry_record` meets its contract.
 use borrow.Author.Needs.{needs}
 use mathlib.Core.Path.{ap}
 use Rattle.loader.specs.Stands.{progressOf}

@@ -1,4 +1,4 @@
--- `loader::entry::integers` meets its contract. Assumes nothing.
+-- `loader::entry::integers` meets its contract.
 use native.Mathlib.Omega.{arith}
 use borrow.Author.Needs.{needs}
 use mathlib.Core.Path.{_≡_, refl, sym, _∙_}

@@ -1,4 +1,4 @@
--- `loader::field::held` meets its contract. Assumes nothing.
+-- `loader::field::held` meets its contract.
 use native.Mathlib.Omega.{arith}
 use mathlib.Core.Path.{subst}
 use borrow.Author.Needs.{needs}

@@ -1,4 +1,4 @@
--- `loader::field::field_number` meets its contract. Assumes nothing.
+-- `loader::field::field_number` meets its contract.
 use Rattle.loader.specs.Numbers.{fieldNumber}
 use Rattle.model.specs.Answer.{pick}
 use mathlib.Core.Path.{sym, _∙_}

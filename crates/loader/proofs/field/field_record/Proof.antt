@@ -1,4 +1,4 @@
--- `loader::field::field_record` meets its contract. Assumes nothing.
+-- `loader::field::field_record` meets its contract.
 use native.Mathlib.Omega.{arith}
 use borrow.Author.Needs.{needs}
 use mathlib.Core.Path.{sym, ap, _∙_}

@@ -1,4 +1,4 @@
--- `loader::field::field_room` meets its contract. Assumes nothing.
+-- `loader::field::field_room` meets its contract.
 use Rattle.loader.specs.Numbers.{slotRoom}
 use Rattle.model.specs.Answer.{pick}
 use borrow.Author.Tests.{le-ltb, lt-ltb, eq-eqb, ne-eqb}

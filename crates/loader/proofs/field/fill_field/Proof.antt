@@ -1,4 +1,4 @@
--- `loader::field::fill_field` meets its contract. Assumes nothing.
+-- `loader::field::fill_field` meets its contract.
 use borrow.Author.Needs.{needs}
 use mathlib.Core.Path.{refl}
 use Rattle.loader.specs.Stands.{stored}

@@ -1,4 +1,4 @@
--- `loader::field::next_slot` meets its contract. Assumes nothing.
+-- `loader::field::next_slot` meets its contract.
 use Rattle.model.specs.Answer.{pick}
 use borrow.Author.Tests.{eq-eqb, ne-eqb}
 use borrow.Author.Needs.{needs}

@@ -1,4 +1,4 @@
--- `loader::local::local_number` meets its contract. Assumes nothing.
+-- `loader::local::local_number` meets its contract.
 use Rattle.loader.specs.Numbers.{localNumber}
 use Rattle.model.specs.Answer.{pick}
 use mathlib.Core.Path.{sym, _∙_}

@@ -1,4 +1,4 @@
--- `loader::local::local_record` meets its contract. Assumes nothing.
+-- `loader::local::local_record` meets its contract.
 use native.Mathlib.Omega.{arith}
 use borrow.Author.Needs.{needs}
 use mathlib.Core.Path.{sym, _∙_}

@@ -1,4 +1,4 @@
--- `loader::method::code_fits` meets its contract. Assumes nothing.
+-- `loader::method::code_fits` meets its contract.
 use Prim.Native.Nat.{_+_, _-_}
 use native.Mathlib.Omega.{arith}
 use Rattle.loader.proofs.Ladder.{leb-same}

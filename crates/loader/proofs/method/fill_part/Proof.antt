@@ -1,4 +1,4 @@
--- `loader::method::fill_part` meets its contract. Assumes nothing.
+-- `loader::method::fill_part` meets its contract.
 use borrow.Author.Needs.{needs}
 use mathlib.Core.Path.{refl}
 use Rattle.loader.specs.Stands.{stored}

@@ -1,4 +1,4 @@
--- `loader::method::mark_initialiser` meets its contract. Assumes nothing.
+-- `loader::method::mark_initialiser` meets its contract.
 use Rattle.loader.specs.Stands.{marked}
 use Rattle.model.specs.Answer.{pick}
 use borrow.Author.Tests.{eq-eqb, ne-eqb}

@@ -1,4 +1,4 @@
--- `loader::method::method_number` meets its contract. Assumes nothing.
+-- `loader::method::method_number` meets its contract.
 use Rattle.loader.specs.Numbers.{methodNumber}
 use Rattle.model.specs.Answer.{pick}
 use mathlib.Core.Path.{sym, _∙_}

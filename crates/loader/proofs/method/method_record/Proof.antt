@@ -1,4 +1,4 @@
--- `loader::method::method_record` meets its contract. Assumes nothing.
+-- `loader::method::method_record` meets its contract.
 use native.Mathlib.Omega.{arith}
 use borrow.Author.Needs.{needs}
 use mathlib.Core.Path.{sym, ap, _∙_}

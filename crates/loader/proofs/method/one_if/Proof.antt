@@ -1,4 +1,4 @@
--- `loader::method::one_if` meets its contract. Assumes nothing.
+-- `loader::method::one_if` meets its contract.
 use Rattle.loader.specs.Stands.{oneIf}
 use Rattle.model.specs.Answer.{pick}
 use borrow.Author.Tests.{eq-eqb, ne-eqb}

@@ -1,4 +1,4 @@
--- `loader::method::read_body` meets its contract. Assumes nothing.
+-- `loader::method::read_body` meets its contract.
 use Rattle.loader.proofs.Climb.{body}
 use borrow.Author.Needs.{needs}
 use Rattle.loader.proofs.method.read_body.Statement.{statement}

@@ -1,4 +1,4 @@
--- `loader::method::return_fits` meets its contract. Assumes nothing.
+-- `loader::method::return_fits` meets its contract.
 use Rattle.loader.proofs.Ladder.{none-map}
 use Rattle.model.specs.Loading.{returnAt}
 use Rattle.loader.specs.Numbers.{isReturn, isType}

@@ -1,4 +1,4 @@
--- `loader::method::sort_fits` meets its contract. Assumes nothing.
+-- `loader::method::sort_fits` meets its contract.
 use mathlib.Core.Path.{sym, _∙_}
 use Rattle.loader.proofs.Rules.{sort-rule, sort-object, sort-value, sort-single, sort-constructor, sort-other, past}
 use lib.ListN.{getD}

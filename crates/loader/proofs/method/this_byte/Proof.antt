@@ -1,4 +1,4 @@
--- `loader::method::this_byte` meets its contract. Assumes nothing.
+-- `loader::method::this_byte` meets its contract.
 use Rattle.loader.specs.Stands.{thisByte}
 use Rattle.model.specs.Answer.{pick}
 use borrow.Author.Tests.{eq-eqb, ne-eqb}

@@ -1,4 +1,4 @@
--- `loader::order::body_bytes` meets its contract. Assumes nothing.
+-- `loader::order::body_bytes` meets its contract.
 use native.Mathlib.Omega.{arith}
 use borrow.Author.Tests.{lt-leb, eq-eqb, ne-eqb}
 use Rattle.model.specs.Answer.{pick, onlyIf, orElse}

@@ -1,4 +1,4 @@
--- `loader::order::follows` meets its contract. Assumes nothing.
+-- `loader::order::follows` meets its contract.
 use Rattle.model.specs.Loading.{follows}
 use Rattle.model.specs.Answer.{pick}
 use borrow.Author.Tests.{eq-eqb, ne-eqb}

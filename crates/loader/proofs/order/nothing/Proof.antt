@@ -1,4 +1,4 @@
--- `loader::order::nothing` meets its contract. Assumes nothing.
+-- `loader::order::nothing` meets its contract.
 use mathlib.Core.Path.{refl}
 use Rattle.model.specs.Answer.{those}
 use Rattle.model.specs.Loading.{nothing}

@@ -1,4 +1,4 @@
--- `loader::order::within` meets its contract. Assumes nothing.
+-- `loader::order::within` meets its contract.
 use Rattle.model.specs.Loading.{within}
 use borrow.Author.Tests.{le-leb, lt-leb}
 use Rattle.loader.proofs.order.within.Statement.{statement}

@@ -1,4 +1,4 @@
--- `loader::overriding::override_fits` meets its contract. Assumes nothing.
+-- `loader::overriding::override_fits` meets its contract.
 use native.Mathlib.Omega.{arith}
 use borrow.Author.Needs.{needs}
 use mathlib.Core.Path.{sym, ap, _∙_}

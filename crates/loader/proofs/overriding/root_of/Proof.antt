@@ -1,4 +1,4 @@
--- `loader::overriding::root_of` meets its contract. Assumes nothing.
+-- `loader::overriding::root_of` meets its contract.
 use borrow.Author.Needs.{needs}
 use borrow.Author.Tests.{eq-eqb, ne-eqb}
 use Rattle.model.specs.Answer.{pick}

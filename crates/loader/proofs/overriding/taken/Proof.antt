@@ -1,4 +1,4 @@
--- `loader::overriding::taken` meets its contract. Assumes nothing.
+-- `loader::overriding::taken` meets its contract.
 use native.Mathlib.Omega.{arith}
 use mathlib.Core.Path.{_≡_, sym, ap, _∙_}
 use mathlib.Core.Option.{Option}

@@ -1,4 +1,4 @@
--- `loader::parameter::param_number` meets its contract. Assumes nothing.
+-- `loader::parameter::param_number` meets its contract.
 use Rattle.loader.specs.Numbers.{paramNumber}
 use Rattle.model.specs.Answer.{pick}
 use mathlib.Core.Path.{sym, _∙_}

@@ -1,4 +1,4 @@
--- `loader::ranges::is_row` meets its contract. Assumes nothing.
+-- `loader::ranges::is_row` meets its contract.
 use Rattle.model.specs.Loading.{within}
 use borrow.Author.Tests.{le-leb, lt-leb}
 use Rattle.loader.proofs.ranges.is_row.Statement.{statement}

@@ -1,4 +1,4 @@
--- `loader::ranges::type_fits` meets its contract. Assumes nothing.
+-- `loader::ranges::type_fits` meets its contract.
 use Rattle.loader.proofs.Ladder.{class-type}
 use Rattle.model.specs.Tables.{typeAt}
 use Rattle.loader.specs.Numbers.{isType}

@@ -1,4 +1,4 @@
--- `loader::records::one_record` meets its contract. Assumes nothing.
+-- `loader::records::one_record` meets its contract.
 use native.Mathlib.Omega.{arith}
 use borrow.Author.Needs.{needs}
 use Rattle.loader.proofs.Bodies.{same-record, three-bytes, eleven-bytes, third, one-class, one-field, one-method, one-param, one-local, one-entry}

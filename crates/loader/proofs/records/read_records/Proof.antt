@@ -1,4 +1,4 @@
--- `loader::records::read_records` meets its contract. Assumes nothing.
+-- `loader::records::read_records` meets its contract.
 use native.Mathlib.Omega.{arith}
 use borrow.Author.Needs.{needs}
 use mathlib.Core.Path.{refl, _∙_}

@@ -1,4 +1,4 @@
--- `loader::records::whole` meets its contract. Assumes nothing.
+-- `loader::records::whole` meets its contract.
 use borrow.Author.Needs.{needs}
 use Rattle.loader.proofs.Reading.{bytes-cut, bytes-whole}
 use Rattle.loader.proofs.records.whole.Statement.{statement}

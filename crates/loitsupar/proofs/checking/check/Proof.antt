@@ -1,4 +1,4 @@
--- `checking::check` meets its contract. Assumes nothing.
+-- `checking::check` meets its contract.
 use mathlib.Core.Path.{refl}
 use borrow.Author.Needs.{needs}
 use Rattle.loitsupar.proofs.Answered.{refused, stands, not-checked, checks, is-checked}

@@ -1,4 +1,4 @@
--- `running::run` meets its contract. Assumes nothing.
+-- `running::run` meets its contract.
 use mathlib.Core.Path.{refl}
 use borrow.Author.Needs.{needs}
 use Rattle.loitsupar.proofs.Answered.{refused, stands, not-run, ready, runs}

@@ -1,4 +1,4 @@
--- `telling::passed_on` meets its contract. Assumes nothing.
+-- `telling::passed_on` meets its contract.
 use mathlib.Core.Path.{refl}
 use Rattle.checker.specs.Told.{told}
 use Rattle.loitsupar.proofs.telling.passed_on.Statement.{statement}
