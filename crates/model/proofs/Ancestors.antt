@@ -22,7 +22,7 @@ pub data Above (ps : List ℕ) (d : ℕ) : ℕ → Type 0 where
   here : 0 < d → Above ps d d
   up : {c : ℕ} → Above ps d (parent_of ps (suc c)) → Above ps d (suc c)
 
-pub above_trans : {ps : List ℕ} {b c d : ℕ} → Above ps c b → Above ps d c → Above ps d b
+pub above_trans : {ps : List ℕ} {c b d : ℕ} → Above ps c b → Above ps d c → Above ps d b
 above_trans (here h) q = q
 above_trans (up p) q = up (above_trans p q)
 
@@ -171,7 +171,7 @@ layout_parent ps fs w c =
     ap (λ (l : List Field). l ++ those (is_own (suc c)) fs) (layout_fuel ps fs w c (parent_of ps (suc c)) (parent_of ps (suc c)) h (le_refl _))
 
 -- a field of a class has the same cell in every class that descends from it
-pub layout_prefix : (ps : List ℕ) (fs : List Field) → Falls ps → {c d : ℕ} → Above ps d c → (i : ℕ) (f : Field) → at (layout ps fs d) i ≡ some f
+pub layout_prefix : (ps : List ℕ) (fs : List Field) → Falls ps → {d c : ℕ} → Above ps d c → (i : ℕ) (f : Field) → at (layout ps fs d) i ≡ some f
     → at (layout ps fs c) i ≡ some f
 layout_prefix ps fs w (here h) i f e = e
 layout_prefix ps fs w (up {c = c} p) i f e = rw (layout_parent ps fs w c) (at_append _ _ i f (layout_prefix ps fs w p i f e))
