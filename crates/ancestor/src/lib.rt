@@ -1,4 +1,6 @@
 // The ancestor test, which loading and the check share.
+#![tactic(auto)]
+
 ghost use Rattle.std.specs.Prelude.{◌≡◌, List, ℕ, ◌<◌};
 ghost use Rattle.model.specs.Tables.{descends as descends_of};
 ghost use Rattle.ancestor.specs.Parents.{Parents};

@@ -1,4 +1,6 @@
 // Reading code: lengths, parts, operands, and the instruction at an offset.
+#![tactic(auto)]
+
 pub mod decode;
 pub mod insn;
 pub mod lengths;

@@ -1,5 +1,7 @@
 // The integer operators on cells of 64 bits. Each takes `wide`: true for two int64, false for two
 // int32, of which only the low 32 bits of a cell are read. Results are low bits.
+#![tactic(auto)]
+
 ghost use Rattle.std.specs.Prelude.{◌≡◌, suc, ◌-◌, ◌*◌, ◌%◌, ◌^◌, neg_ℤ, nat_le, unsigned_abs};
 ghost use Rattle.std.specs.Int.{w32, w64};
 ghost use mir.Val.{bits, hbits, to_z, of_z};

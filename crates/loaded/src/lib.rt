@@ -1,4 +1,6 @@
 // A loaded module in flat arrays, indexed by row, that the check and the machine use without reading the tables again; and what every layer says of a fault.
+#![tactic(auto)]
+
 pub mod columns; // what stands where in a row
 
 // A fault: its number, 0 where there is none, and its place. A refusal of loading has method 0, and the place in the tables as offset.

@@ -1,0 +1,8 @@
+use mathlib.Core.Path.{ap, ◌∙◌}
+use Rattle.model.specs.Loading.{little}
+use Rattle.code.proofs.Parts.{after_one}
+use Rattle.code.proofs.operands.four_after.Goals as goal
+
+pub returns : goal.returns
+returns c =
+    (c.little4.ensures.value ∙ ap (little 4) (after_one c.args.at c.args.part.now), c.little4.ensures.below)
