@@ -1,4 +1,6 @@
 // Loading: house tables to a module in flat arrays, indexed by row, that the check and the machine use without reading the tables again.
+#![tactic(auto)]
+
 mod numbers; // limits, kinds, sorts, types, refusals
 mod order; // what is loaded so far, and which record may follow it
 mod ranges; // rows and types

@@ -1,5 +1,7 @@
 // The operators on F: IEEE 754 doubles in cells of 64 bits. A NaN is always stored as
 // 7FF8000000000000.
+#![tactic(auto)]
+
 ghost use Rattle.std.specs.Prelude.{◌≡◌};
 ghost use Rattle.std.specs.Float.Ieee as Ieee;
 ghost use Rattle.std.specs.Float.{binary64};

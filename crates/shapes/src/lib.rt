@@ -1,4 +1,6 @@
 // Shapes by number, and what each group of instructions does to them.
+#![tactic(auto)]
+
 pub mod effect; // what an instruction does to a shape
 pub mod fit; // types as bytes
 pub mod numbers; // numbers of document 01

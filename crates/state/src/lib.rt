@@ -1,4 +1,6 @@
 // The state of the machine in arrays, and the registers that the steps keep beside them.
+#![tactic(auto)]
+
 pub mod columns; // what stands where in a frame
 pub mod fit; // whether a value fits a declared type
 pub mod tokens; // the rows that tokens name

@@ -1,0 +1,4 @@
+use Rattle.reals.proofs.fneg.Goals as goal
+
+pub returns : goal.returns
+returns c = cc
