@@ -24,7 +24,7 @@ pub const MOST_ARGUMENTS: usize = 255;
 
 // Where the parts lie: the length of the tables, the offset and the length of the code, the offset and the number of arguments, the offset of the budget,
 // and the end of the case.
-#[derive(Drop)]
+#[derive(Clone, Copy)]
 pub struct Places {
     pub tables: usize,
     pub code: usize,

@@ -5,14 +5,14 @@ ghost use Rattle.model.specs.Code.{target, row_of};
 ghost use Rattle.code.specs.Operand.{held, target_of, row_in};
 
 // Where a branch goes: before the code, or to an offset.
-#[derive(Drop)]
+#[derive(Clone, Copy)]
 pub enum Target {
     Before,
     At(usize),
 }
 
 // A token of another kind, or its row.
-#[derive(Drop)]
+#[derive(Clone, Copy)]
 pub enum Row {
     Wrong,
     Is(usize),

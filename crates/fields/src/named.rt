@@ -17,7 +17,7 @@ const CLASS_KIND: u64 = 2;
 const FIELD_KIND: u64 = 4;
 
 // A row, or what refuses it: 41 or 42, else 0.
-#[derive(Drop)]
+#[derive(Clone, Copy)]
 pub struct Named {
     pub refusal: u8,
     pub row: usize,

@@ -7,7 +7,7 @@ pub mod branches; // branches
 use state::Gone;
 
 // What trying a group of opcodes came to: whether the opcode is of that group, and how its step went. `next` names a step that leaves the frame, 0 none.
-#[derive(Drop)]
+#[derive(Clone, Copy)]
 pub struct Tried {
     pub mine: bool,
     pub next: u8,

@@ -12,7 +12,7 @@ ghost use Rattle.integers.specs.Cells.{width_of, low, answer};
 ghost use Rattle.integers.specs.Parts.{raised, sunk, unless, signed_of, fitting, refusal_of};
 
 // What an operator that can fail gives: bits, or the number that the run ends with.
-#[derive(Drop)]
+#[derive(Clone, Copy)]
 pub enum Out {
     Bits(u64),
     Ends(u8),

@@ -5,7 +5,7 @@ ghost use Rattle.model.specs.Turn.{answer};
 ghost use Rattle.line.specs.Announced.{announced_by, answered};
 
 // What the input announces: a refusal, or where the code begins.
-#[derive(Drop)]
+#[derive(Clone, Copy)]
 pub enum Input {
     Cut,
     TooLong,

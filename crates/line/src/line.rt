@@ -7,7 +7,7 @@ ghost use Rattle.line.specs.Values.{value_of};
 use super::numbers::{decimal, hex, put, signed};
 
 // What a run hands back, as bits; an object is its number.
-#[derive(Drop)]
+#[derive(Clone, Copy)]
 pub enum Value {
     None,
     Int32(u64),

@@ -4,7 +4,7 @@
 pub mod columns; // what stands where in a row
 
 // A fault: its number, 0 where there is none, and its place. A refusal of loading has method 0, and the place in the tables as offset.
-#[derive(Drop)]
+#[derive(Clone, Copy)]
 pub struct Fault {
     pub number: u8,
     pub method: usize,
@@ -12,7 +12,7 @@ pub struct Fault {
 }
 
 // How many rows of each kind a module has, and the row of its entry.
-#[derive(Drop)]
+#[derive(Clone, Copy)]
 pub struct Counts {
     pub classes: usize,
     pub fields: usize,

@@ -25,7 +25,7 @@ use crate::records::read_records;
 use loaded::{Counts, Fault, Loaded};
 
 // How loading into lent arrays ended: the fault, or the counts of the module, which are 0 after a fault.
-#[derive(Drop)]
+#[derive(Clone, Copy)]
 pub struct Loads {
     pub fault: Fault,
     pub counts: Counts,

@@ -19,7 +19,7 @@ use loaded::columns::{
 const THIS: usize = 0;
 
 // A method's record: its body, the code part's offset and length as whole numbers.
-#[derive(Drop)]
+#[derive(Clone, Copy)]
 pub struct Body {
     pub owner: u8,
     pub sort: u8,

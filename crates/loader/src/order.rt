@@ -7,7 +7,7 @@ ghost use Rattle.loader.specs.Stands.{progress_of};
 use crate::numbers;
 
 // What is loaded so far: the kind of the last record, how many rows there are, and the entry.
-#[derive(Drop)]
+#[derive(Clone, Copy)]
 pub struct Progress {
     pub last: u8,
     pub classes: usize,
@@ -18,7 +18,7 @@ pub struct Progress {
 }
 
 // What a record did: its number, 0 where it was taken, and the progress after it.
-#[derive(Drop)]
+#[derive(Clone, Copy)]
 pub struct Step {
     pub number: u8,
     pub progress: Progress,

@@ -16,7 +16,7 @@ use crate::order::{Progress, Step, body_bytes, nothing};
 use crate::parameter::param_record;
 
 // How reading ended: the number and place of a refusal, 0 where every record was taken; and the progress.
-#[derive(Drop)]
+#[derive(Clone, Copy)]
 pub struct Reading {
     pub number: u8,
     pub place: usize,

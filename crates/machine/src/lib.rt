@@ -17,7 +17,7 @@ use state::{Moved, Stay};
 
 // How the loop was left: the number of the ending, 1 a return from the entry, what is left of the budget, and the registers, `row` the running method's and `made` the number
 // of objects.
-#[derive(Drop)]
+#[derive(Clone, Copy)]
 pub struct Stopped {
     pub how: u8,
     pub left: u64,

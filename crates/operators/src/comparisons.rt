@@ -5,7 +5,7 @@ ghost use Rattle.integers.specs.Cells.{width_of, low};
 ghost use Rattle.operators.specs.Gives.{relation_by, compared, says};
 
 // Whether a comparison holds, or that the kinds have none.
-#[derive(Drop)]
+#[derive(Clone, Copy)]
 pub enum Holds {
     Says(bool),
     Wrong,

@@ -12,7 +12,7 @@ use crate::comparisons::{
 use integers::Out;
 
 // What an operator gives: a kind and bits, or the number that the run ends with.
-#[derive(Drop)]
+#[derive(Clone, Copy)]
 pub enum Given {
     Cell(u8, u64),
     Ends(u8),

@@ -58,7 +58,7 @@ fn scan(lengths: &[u8; 256], code: &[u8], starts: &mut [u8; 1024]) -> usize
 }
 
 // The number of a method's fault, 0 where it passes, and its offset.
-#[derive(Drop)]
+#[derive(Clone, Copy)]
 pub struct Told {
     pub number: u8,
     pub offset: usize,

@@ -26,7 +26,7 @@ const INT32: u8 = 1;
 const INT64: u8 = 2;
 
 // What is told of a run beside the arrays of its state.
-#[derive(Drop)]
+#[derive(Clone, Copy)]
 pub struct Summary {
     pub end: Fault,
     pub steps: u64,

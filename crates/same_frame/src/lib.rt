@@ -19,7 +19,7 @@ const PAST: u8 = 46;
 
 // How a stay ended: `next` is the step that changes the frame, and `first` the initialiser's row where one comes first; where `next` is 0, the run ends with `how`.
 // `left` is what is left of the budget.
-#[derive(Drop)]
+#[derive(Clone, Copy)]
 pub struct Stayed {
     pub next: u8,
     pub how: u8,

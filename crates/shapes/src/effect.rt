@@ -384,7 +384,7 @@ pub fn ret(
 }
 
 // What is left of a shape when values are popped, and whether they fit.
-#[derive(Drop)]
+#[derive(Clone, Copy)]
 pub struct Popped {
     pub fit: bool,
     pub rest: usize,

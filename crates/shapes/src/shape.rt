@@ -14,7 +14,7 @@ pub const EMPTY: usize = 1;
 pub const FIRST: usize = 2;
 
 // What an instruction does to a shape: a fault, or 0 and the shape after it.
-#[derive(Drop)]
+#[derive(Clone, Copy)]
 pub struct After {
     pub fault: u8,
     pub shape: usize,

@@ -24,7 +24,7 @@ pub struct State {
 }
 
 // A stay in a frame: what is the same as long as no other frame runs.
-#[derive(Drop)]
+#[derive(Clone, Copy)]
 pub struct Stay {
     // the frame's first cell, and the first byte of its method's row
     pub fp: usize,
@@ -35,7 +35,7 @@ pub struct Stay {
 }
 
 // How a step went that stays in its frame: 0 goes on, any other number says why not; the offset of the next instruction, and the index one past the stack's top.
-#[derive(Drop)]
+#[derive(Clone, Copy)]
 pub struct Gone {
     pub how: u8,
     pub at: usize,
@@ -43,7 +43,7 @@ pub struct Gone {
 }
 
 // How a step went that may leave its frame: the registers after it, `row` the running method's and `made` the number of objects.
-#[derive(Drop)]
+#[derive(Clone, Copy)]
 pub struct Moved {
     pub how: u8,
     pub at: usize,

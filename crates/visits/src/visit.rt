@@ -139,7 +139,7 @@ pub fn onward(
 }
 
 // What a visit leaves: a fault or 0, and how many shapes are made.
-#[derive(Drop)]
+#[derive(Clone, Copy)]
 pub struct Visited {
     pub fault: u8,
     pub made: usize,
