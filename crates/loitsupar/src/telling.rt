@@ -10,7 +10,7 @@ use loaded::Fault;
 use loader::load_into;
 
 // The fault, or no fault and what was found.
-#[derive(Clone, Copy)]
+#[derive(Drop)]
 pub struct Told {
     pub fault: Fault,
     pub found: Found,

@@ -24,7 +24,7 @@ const BUDGET: u8 = 22;
 const MOST_BUDGET: u64 = 1_000_000;
 
 // How a run ended: its ending with its place, steps made, value and the whole state. A refusal has number and place, and all else is 0.
-#[derive(Clone, Copy)]
+#[derive(Drop)]
 pub struct Ended {
     pub end: Fault,
     pub steps: u64,
