@@ -1,36 +1,38 @@
-// A case from standard input.
-ghost use Rattle.std.specs.Prelude.{◌≡◌, true, ◌⊎◌, ◌≤◌, length, take};
+// A case from an input.
+ghost use Rattle.std.specs.Prelude.{◌≡◌, ◌⊎◌, ◌≤◌, length, take, IfOk, IsTrue};
 ghost use Rattle.case_line.specs.Case.{Whole};
 
 use case_line::announced;
 use code::part::part;
-use libc::STDIN_FILENO;
+use std::io;
+use std::io::Read;
+use streams::fill;
 
 // Reads the bytes of a case from one place to another; false where the input ends before, or where the buffer does.
-fn more(case: &mut [u8], from: usize, to: usize) -> bool
-    ensures { result ≡ true → (from ≤ to) × (to ≤ length case.new) }
+fn more<R: Read>(input: &mut R, case: &mut [u8], from: usize, to: usize) -> io::Result<bool>
+    ensures { IfOk result (λ there. IsTrue there → (from ≤ to) × (to ≤ length case.new)) }
 {
     if case.len() < to {
-        return false;
+        return Ok(false);
     }
     if to < from {
-        return false;
+        return Ok(false);
     }
-    io::read_full(STDIN_FILENO, &mut case[from..to]) == to - from
+    Ok(fill(input, &mut case[from..to])? == to - from)
 }
 
 // Reads a case to the start of the buffer, and gives how long it is, 0 where it is cut off. What is there announces what follows, until it is a case.
-pub fn read(case: &mut [u8]) -> usize
-    ensures { (result ≡ 0) ⊎ Whole (take result case.new) }
+pub fn read<R: Read>(input: &mut R, case: &mut [u8]) -> io::Result<usize>
+    ensures { IfOk result (λ n. (n ≡ 0) ⊎ Whole (take n case.new)) }
 {
     let mut have = 0;
     let mut all = announced(part(case, 0, have));
     while have != all {
-        if !more(case, have, all) {
-            return 0;
+        if !more(input, case, have, all)? {
+            return Ok(0);
         }
         have = all;
         all = announced(part(case, 0, have));
     }
-    have
+    Ok(have)
 }

@@ -1,16 +1,23 @@
 // turn: reads a whole input, two bytes of table length, tables and code, and prints one line.
+#![tactic(auto)]
+
 use code::part::part;
-use libc::{STDIN_FILENO, STDOUT_FILENO};
+use std::io;
+use std::io::{Read, Write};
+use streams::fill;
 
-// The first n bytes of a line are written.
-fn say(line: &[u8; 128], n: usize) {
-    io::write_all(STDOUT_FILENO, part(line, 0, n));
-}
+// As many bytes of an input as are read.
+const MOST_INPUT: usize = 65536;
 
-fn main() {
-    let mut space = io::large_buffer();
-    let n = io::read_full(STDIN_FILENO, &mut space);
+// Reads an input and writes its line.
+fn answer<R: Read, W: Write>(from: &mut R, to: &mut W) -> io::Result<()> {
+    let mut space = [0u8; MOST_INPUT];
+    let n = fill(from, &mut space)?;
     let mut out = [0u8; 128];
     let k = turn_line::turn(&space[..n], &mut out);
-    say(&out, k);
+    to.write_all(part(&out, 0, k))
+}
+
+fn main(rt: HostRuntime) -> io::Result<()> {
+    answer(&mut rt.stdin(), &mut rt.stdout())
 }

@@ -1,0 +1,25 @@
+// Input as bytes, from any reader.
+#![tactic(auto)]
+
+ghost use Rattle.std.specs.Prelude.{◌<◌, ◌≤◌, length, take, IfOk};
+ghost use Rattle.std.specs.Io.KnownBytes.{Consumes, IsAtEnd};
+
+use std::io;
+use std::io::Read;
+
+// Reads to the start of a buffer until it is full or the input ends, and gives how many bytes that was.
+pub fn fill<R: Read>(from: &mut R, to: &mut [u8]) -> io::Result<usize>
+    ensures within { IfOk result (λ n. n ≤ length to.new) }
+    ensures bytes { IfOk result (λ n. Consumes (R.remaining from.old) (R.remaining from.new) (take n to.new)) }
+    ensures ends { IfOk result (λ n. n < length to.new → IsAtEnd (R.remaining from.new)) }
+{
+    let mut have = 0;
+    while have < to.len() {
+        let n = from.read(&mut to[have..])?;
+        if n == 0 {
+            return Ok(have);
+        }
+        have += n;
+    }
+    Ok(have)
+}
