@@ -1,4 +1,6 @@
 // The steps that change the frame: calls, newobj, ret, and the start of a class.
+#![tactic(auto)]
+
 pub mod arguments; // what a call takes from the stack
 pub mod calls; // call and callvirt
 pub mod enter; // a new frame

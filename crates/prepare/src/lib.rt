@@ -1,4 +1,6 @@
 // Tables made once from a loaded module, for the steps: the method that callvirt takes, the kinds of variables, the sets of ancestors, and the types of cells.
+#![tactic(auto)]
+
 mod kinds; // the kind of each variable of a method
 mod members; // fields in their cells, methods at their roots
 mod rows; // a row for each class, which inherits from the row of its parent

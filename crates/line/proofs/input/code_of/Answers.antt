@@ -1,0 +1,7 @@
+-- `code_of` meets its contract: what follows where the code begins.
+use borrow.Author.Rules.{rules}
+use Rattle.line.proofs.Inputs.{code_part}
+use Rattle.line.proofs.input.code_of.Goals as goal
+
+pub returns : goal.returns
+returns c = code_part c.args.input.now c.after.result.now c.args.n c.after.ensures

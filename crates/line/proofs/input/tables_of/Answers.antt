@@ -1,0 +1,12 @@
+-- `tables_of` meets its contract: what lies between the two bytes and the code.
+use borrow.Author.Rules.{rules}
+use mathlib.Core.Path.{refl}
+use native.Mathlib.Omega.{arith}
+use Rattle.line.proofs.Inputs.{tables_part}
+use Rattle.line.proofs.input.tables_of.Goals as goal
+
+pub returns-then-n-lt2 : goal.returns-then-n-lt2
+returns-then-n-lt2 c = tables_part c.args.input.now c.part.result.now c.args.n 0 (omega arith) c.part.ensures
+
+pub returns : goal.returns
+returns c = tables_part c.args.input.now c.part-2.result.now c.args.n _ refl c.part-2.ensures

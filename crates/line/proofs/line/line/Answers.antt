@@ -1,0 +1,8 @@
+-- `line` meets its contract: a line has room in 128 bytes.
+use borrow.Author.Rules.{rules}
+use native.Mathlib.Omega.{arith}
+use Rattle.line.proofs.Lines.{alone}
+use Rattle.line.proofs.line.line.Goals as goal
+
+pub returns : goal.returns
+returns c = alone _ (omega arith) c.append_line.ensures

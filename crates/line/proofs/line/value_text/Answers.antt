@@ -1,0 +1,40 @@
+-- `value_text` meets its contract, case by case.
+use borrow.Author.Rules.{rules}
+use Prim.Native.Nat.{ℕ}
+use native.Mathlib.Omega.{arith}
+use mathlib.Core.Path.{◌≡◌, sym, ap, ◌∙◌}
+use mir.Syntax.{w64}
+use mir.Val.{to_z}
+use Rattle.integers.specs.Cells.{low}
+use Rattle.model.specs.Turn.{signed, text_of, dash}
+use Rattle.line.specs.declared.line.Value.{Value}
+use Rattle.line.specs.Values.{value_of}
+use Rattle.line.proofs.Appending.{same}
+use Rattle.line.proofs.line.value_text.Goals as goal
+
+pub returns-in-None : goal.returns-in-None
+unfolding text_of dash
+returns-in-None c = same (sym (ap (λ (v : Value). text_of (value_of v)) c.enum_told-1.given.1)) c.put.ensures
+
+pub returns-in-Int32 : goal.returns-in-Int32
+unfolding text_of
+returns-in-Int32 c = same (sym (ap (λ (v : Value). text_of (value_of v)) c.value-1.given.1)) c.signed.ensures
+
+pub returns-in-Int64 : goal.returns-in-Int64
+unfolding text_of
+returns-in-Int64 c =
+    let n = c.value-in-Int64-1.given.0.0 in
+    let e : low w64 n ≡ n = omega arith in
+    same (ap (λ (m : ℕ). signed (to_z w64 m)) e ∙ sym (ap (λ (v : Value). text_of (value_of v)) c.value-in-Int64-1.given.1)) c.signed-in-Int64.ensures
+
+pub returns-in-Real : goal.returns-in-Real
+unfolding text_of
+returns-in-Real c = same (sym (ap (λ (v : Value). text_of (value_of v)) c.value-in-Real-1.given.1)) c.hex.ensures
+
+pub returns-in-Null : goal.returns-in-Null
+unfolding text_of dash
+returns-in-Null c = same (sym (ap (λ (v : Value). text_of (value_of v)) c.enum_told-in-Null-1.given.1)) c.put-in-Null.ensures
+
+pub returns-in-Object : goal.returns-in-Object
+unfolding text_of dash
+returns-in-Object c = same (sym (ap (λ (v : Value). text_of (value_of v)) c.enum_told-in-Object-1.given.1)) c.put-in-Object.ensures

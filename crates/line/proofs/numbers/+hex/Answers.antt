@@ -1,0 +1,38 @@
+-- `hex` meets its contract: the digits above the last one, then the last one. The measure is their count.
+use Prim.Native.Nat.{ℕ, ◌<◌}
+use native.Mathlib.Omega.{arith}
+use borrow.Author.Rules.{rules}
+use borrow.Fn.Kinds.{In}
+use mathlib.Core.Path.{sym}
+use Rattle.line.proofs.Appending.{nothing, same, then}
+use Rattle.line.proofs.Spelling.{hex_none, hex_last}
+use Rattle.line.proofs.numbers.+hex.{statement}
+use Rattle.line.proofs.numbers.+hex.Goals as goal
+
+abbrev μ : Measures 1 hex-kinds.ps ℕ
+
+μ κs a = a.1.1.0
+
+-- what `hex` is given at the measure t, and what a call of it asks below t
+
+abbrev given : ℕ → In 1 hex-kinds.ps
+
+given t = and 1 hex-kinds.ps (is 1 hex-kinds.ps μ t) hex.Pre
+
+abbrev below : ℕ → In 1 hex-kinds.ps
+
+below t = and 1 hex-kinds.ps (falls 1 hex-kinds.ps ◌<◌ μ t) hex.Pre
+
+pub hex-next-requires : goal.hex-next-requires
+hex-next-requires t c = (omega arith, tt)
+
+pub returns-then-count-eq0 : goal.returns-then-count-eq0
+returns-then-count-eq0 t c =
+    let s = c.args in
+    same (sym (hex_none s.count s.n c.if-count-eq0.true)) (nothing s.out.now s.at)
+
+pub returns-else-count-eq0 : goal.returns-else-count-eq0
+returns-else-count-eq0 t c =
+    let s = c.args in
+    let e = hex_last s.count s.n c.if-count-eq0.false in
+    same (sym e) (then c.hex-next.ensures c.put_digit.ensures)

@@ -1,0 +1,10 @@
+-- `put_digit` meets its contract.
+use borrow.Author.Rules.{rules}
+use Prim.Native.Nat.{ℕ}
+use mathlib.Core.Path.{ap}
+use mathlib.Core.List.{[], ◌∷◌}
+use Rattle.line.proofs.Appending.{same}
+use Rattle.line.proofs.numbers.put_digit.Goals as goal
+
+pub returns : goal.returns
+returns c = same (ap (λ (b : ℕ). b ∷ []) c.digit.ensures) c.put.ensures

@@ -1,0 +1,49 @@
+use borrow.Author.Rules.{rules}
+use mathlib.Core.Path.{ap}
+use mathlib.Core.Bool.{not}
+use borrow.Author.Tests.{ne_eqb}
+use Rattle.model.specs.Answer.{pick}
+use Rattle.model.specs.Operators.{relates}
+use Rattle.operators.specs.Gives.{relation_by}
+use Rattle.operators.proofs.comparisons.related_bits.Goals as goal
+
+pub returns-in-0 : goal.returns-in-0
+unfolding relation_by pick relates
+returns-in-0 c = simp c.in_default.keys1 c.equal.ensures
+
+pub returns-in-1 : goal.returns-in-1
+unfolding relation_by pick relates
+returns-in-1 c = simp c.in_default.keys2 (ap not c.equal-in-1.ensures)
+
+pub returns-in-2 : goal.returns-in-2
+unfolding relation_by pick relates
+returns-in-2 c = simp c.in_default.keys3 c.less.ensures
+
+pub returns-in-3 : goal.returns-in-3
+unfolding relation_by pick relates
+returns-in-3 c = simp c.in_default.keys4 c.at_most.ensures
+
+pub returns-in-4 : goal.returns-in-4
+unfolding relation_by pick relates
+returns-in-4 c = simp c.in_default.keys5 c.less-in-4.ensures
+
+pub returns-in-5 : goal.returns-in-5
+unfolding relation_by pick relates
+returns-in-5 c = simp c.in_default.keys6 c.at_most-in-5.ensures
+
+pub returns-in-6 : goal.returns-in-6
+unfolding relation_by pick relates
+returns-in-6 c = simp c.in_default.keys7 c.less_un.ensures
+
+pub returns-in-7 : goal.returns-in-7
+unfolding relation_by pick relates
+returns-in-7 c = simp c.in_default.keys8 c.at_most_un.ensures
+
+pub returns-in-8 : goal.returns-in-8
+unfolding relation_by pick relates
+returns-in-8 c = simp c.in_default.keys9 c.less_un-in-8.ensures
+
+pub returns-in_default : goal.returns-in_default
+unfolding relation_by pick relates
+returns-in_default c =
+    simp (ne_eqb _ _ c.in_default.rest.1, ne_eqb _ _ c.in_default.rest.0.1, ne_eqb _ _ c.in_default.rest.0.0.1, ne_eqb _ _ c.in_default.rest.0.0.0.1, ne_eqb _ _ c.in_default.rest.0.0.0.0.1, ne_eqb _ _ c.in_default.rest.0.0.0.0.0.1, ne_eqb _ _ c.in_default.rest.0.0.0.0.0.0.1, ne_eqb _ _ c.in_default.rest.0.0.0.0.0.0.0.1, ne_eqb _ _ c.in_default.rest.0.0.0.0.0.0.0.0.1) c.at_most_un-in_default.ensures

@@ -1,0 +1,22 @@
+use borrow.Author.Rules.{rules}
+use borrow.Author.Tests.{ne_eqb}
+use Rattle.model.specs.Answer.{pick}
+use Rattle.operators.specs.Gives.{number_by}
+use Rattle.operators.proofs.operators.number_real.Goals as goal
+
+pub returns-in-0 : goal.returns-in-0
+unfolding number_by pick
+returns-in-0 c = simp c.in_default.keys1 c.fadd.ensures
+
+pub returns-in-1 : goal.returns-in-1
+unfolding number_by pick
+returns-in-1 c = simp c.in_default.keys2 c.fsub.ensures
+
+pub returns-in-2 : goal.returns-in-2
+unfolding number_by pick
+returns-in-2 c = simp c.in_default.keys3 c.fmul.ensures
+
+pub returns-in_default : goal.returns-in_default
+unfolding number_by pick
+returns-in_default c =
+    simp (ne_eqb _ _ c.in_default.rest.1, ne_eqb _ _ c.in_default.rest.0.1, ne_eqb _ _ c.in_default.rest.0.0.1) c.fdiv.ensures

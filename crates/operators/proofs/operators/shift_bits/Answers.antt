@@ -1,0 +1,18 @@
+use borrow.Author.Rules.{rules}
+use borrow.Author.Tests.{ne_eqb}
+use Rattle.model.specs.Answer.{pick}
+use Rattle.operators.specs.Gives.{shift_by}
+use Rattle.operators.proofs.operators.shift_bits.Goals as goal
+
+pub returns-in-0 : goal.returns-in-0
+unfolding shift_by pick
+returns-in-0 c = simp c.in_default.keys1 c.shl.ensures
+
+pub returns-in-1 : goal.returns-in-1
+unfolding shift_by pick
+returns-in-1 c = simp c.in_default.keys2 c.shr.ensures
+
+pub returns-in_default : goal.returns-in_default
+unfolding shift_by pick
+returns-in_default c =
+    simp (ne_eqb _ _ c.in_default.rest.1, ne_eqb _ _ c.in_default.rest.0.1) c.shr_un.ensures

@@ -1,0 +1,13 @@
+use borrow.Author.Rules.{rules}
+use mathlib.Core.Path.{sym, ap}
+use Rattle.operators.specs.Gives.{given, of_kind}
+use Rattle.integers.specs.Cells.{answer}
+use Rattle.operators.proofs.operators.tagged.Goals as goal
+
+pub returns-in-Bits : goal.returns-in-Bits
+returns-in-Bits c =
+    sym (ap (λ o. of_kind c.args.k (answer o)) c.o-1.given.1)
+
+pub returns-in-Ends : goal.returns-in-Ends
+returns-in-Ends c =
+    sym (ap (λ o. of_kind c.args.k (answer o)) c.o-in-Ends-1.given.1)

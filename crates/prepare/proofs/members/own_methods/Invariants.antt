@@ -1,0 +1,17 @@
+use Prim.Native.Nat.{◌≤◌, ◌<◌}
+use mathlib.Core.Path.{◌≡◌}
+use mathlib.Core.List.{List}
+use native.Mathlib.Omega.{arith}
+use lib.ListN.{length, length-set}
+use Rattle.model.specs.Tables.{Method}
+use Rattle.prepare.specs.Told.{MethodsTold, OwnFrom}
+use Rattle.prepare.proofs.Turns.{zeros_long}
+use Rattle.prepare.proofs.Methods.{own_none, own_turn}
+use Rattle.prepare.proofs.members.own_methods.Given as goal
+
+abbrev pub invariant-loop-r : goal.invariant-loop-r
+invariant-loop-r l = (length l.chosen ≡ 4257) × (l.r < 129) ×
+    ((ms : List Method) → MethodsTold ms l.methods → l.count ≡ length ms → (l.r ≤ length ms) × OwnFrom ms l.r l.chosen)
+
+abbrev pub decreases-loop-r : goal.decreases-loop-r
+decreases-loop-r l = l.r

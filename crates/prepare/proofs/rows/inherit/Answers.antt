@@ -1,0 +1,37 @@
+use Prim.Native.Nat.{ℕ, ◌+◌, ◌-◌, ◌*◌, ◌%◌, ◌≤◌, ◌<◌}
+use mathlib.Core.Path.{◌≡◌, refl}
+use native.Mathlib.Omega.{arith}
+use lib.ListN.{get_or}
+use Rattle.prepare.specs.Rows.{Inherited}
+use Rattle.prepare.proofs.Turns.{row_ends, inherited_none, inherited_more}
+use borrow.Author.Rules.{rules}
+use Rattle.prepare.proofs.rows.inherit.Goals as goal
+
+pub loop-c-init : goal.loop-c-init
+loop-c-init c = (omega arith, omega arith, inherited_none _ _ _ _)
+
+-- the parent's row and the class's own end within the table
+
+pub overflow_mul-parent : goal.overflow_mul-parent
+overflow_mul-parent c = omega (arith, (row_ends _ 33 _ (omega arith)))
+
+pub overflow_mul-c : goal.overflow_mul-c
+overflow_mul-c c = omega (arith, (row_ends _ 33 _ (omega arith)))
+
+pub fill-requires : goal.fill-requires
+fill-requires c = omega (arith, (row_ends _ 33 _ (omega arith)), (row_ends _ 33 _ (omega arith)), c.loop-c.invariant.2.long)
+
+pub loop-c-preserved : goal.loop-c-preserved
+loop-c-preserved c = (
+  omega arith,
+  omega arith,
+  inherited_more _ _ _ _ _ c.requires.2 _ _ _
+      c.loop-c.invariant.2 refl c.fill.ensures
+      c.loop-c.invariant.0 (omega arith),
+)
+
+pub shape_of-table : goal.shape_of-table
+shape_of-table c = c.loop-c.invariant.2.long
+
+pub returns : goal.returns
+returns c = let e : c.loop-c.c ≡ c.args.classes % 33 + 1 = omega arith in rw e at c.loop-c.invariant.2

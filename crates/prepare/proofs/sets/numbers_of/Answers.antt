@@ -1,0 +1,6 @@
+use Rattle.prepare.proofs.Asking.{numbers_are}
+use borrow.Author.Rules.{rules}
+use Rattle.prepare.proofs.sets.numbers_of.Goals as goal
+
+pub returns : goal.returns
+returns c = numbers_are _ c.requires.0 c.requires.1

@@ -1,0 +1,15 @@
+use Prim.Native.Nat.{ℕ, ◌+◌, ◌-◌, ◌≤◌, ◌<◌}
+use mathlib.Core.Path.{◌≡◌}
+use mathlib.Core.List.{List}
+use native.Mathlib.Omega.{arith}
+use Rattle.ancestor.specs.Parents.{Parents}
+use Rattle.prepare.specs.Sets.{Unasked, Upto}
+use Rattle.prepare.proofs.Asking.{upto_first, upto_all}
+use borrow.Author.Rules.{rules}
+use Rattle.prepare.proofs.sets.set_of.Given as goal
+
+abbrev pub invariant-loop-d : goal.invariant-loop-d
+invariant-loop-d l = (0 < l.d) × (l.d ≤ l.c + 1) × ((ps : List ℕ) → Parents ps l.parents → Unasked ps l.c l.first → Upto ps l.c l.d l.set)
+
+abbrev pub decreases-loop-d : goal.decreases-loop-d
+decreases-loop-d l = l.c + 1 - l.d
