@@ -8,5 +8,5 @@ pub clear-requires : goal.clear-requires
 clear-requires c = (omega arith, omega (arith, c.requires.row_ranges.locals_few c.args.row, c.wide.ensures.0))
 
 pub returns : goal.returns
-returns c = let s : goal.Start = c in
+returns c = let s = c in
     record { landed = record { frame = framed_above s.requires.framed s.requires.y_range.1; row = s.requires.y_range.2; bottom = omega arith }; how_is = refl; as_model = λ w k t. frame_says _ w s.args.y k _ t _ _ s.args.sp _ s.requires.stays.floor_is c.wide.ensures.0 c.clear.ensures }

@@ -11,15 +11,11 @@ use Rattle.across_frames.proofs.Moving.{landed, ends, finished, goes, through, a
 use Rattle.across_frames.proofs.Taken.{due_none, due_one}
 use Rattle.across_frames.proofs.returns.ret.Goals as goal
 
-abbrev base : Work → goal.Start → Work
-
-base w s = on_leave w (regs_at s.args.y s.args.row s.args.at s.args.sp s.args.made) s.args.cells.now s.args.kinds.now w.marks s.args.classes.now
-
 pub returns-then-e-ne0 : goal.returns-then-e-ne0
-returns-then-e-ne0 c = rw c.stays.ensures (landed c.args.y _ _ _ _ c.requires.in_frame c.requires.in_frame.row_few, λ w. ends (omega (arith, c.unreturned-e.ensures.as_model c.if-e-ne0.true)) (aside _ _ (c.unreturned-e.ensures.ancestors_as_model (base w c) c.args.methods.now refl refl) c.if-e-ne0.true))
+returns-then-e-ne0 c = rw c.stays.ensures (record { landed = landed c.args.y _ _ _ _ c.requires.in_frame c.requires.in_frame.row_few; leaves = λ w. ends (omega (arith, c.unreturned-e.ensures.as_model c.if-e-ne0.true)) (aside _ _ (c.unreturned-e.ensures.ancestors_as_model ((on_leave w (regs_at c.args.y c.args.row c.args.at c.args.sp c.args.made) c.args.cells.now c.args.kinds.now w.marks c.args.classes.now)) c.args.methods.now refl refl) c.if-e-ne0.true) })
 
 pub returns-then-y-eq0 : goal.returns-then-y-eq0
-returns-then-y-eq0 c = rw c.stays-then-y-eq0.ensures (landed c.args.y _ _ _ _ c.requires.in_frame c.requires.in_frame.row_few, λ w. finished (through _ _ (c.unreturned-e.ensures.ancestors_as_model (base w c) c.args.methods.now refl refl) c.if-e-ne0.false ∙ return_over _ _ _ c.if-y-eq0.true))
+returns-then-y-eq0 c = rw c.stays-then-y-eq0.ensures (record { landed = landed c.args.y _ _ _ _ c.requires.in_frame c.requires.in_frame.row_few; leaves = λ w. finished (through _ _ (c.unreturned-e.ensures.ancestors_as_model ((on_leave w (regs_at c.args.y c.args.row c.args.at c.args.sp c.args.made) c.args.cells.now c.args.kinds.now w.marks c.args.classes.now)) c.args.methods.now refl refl) c.if-e-ne0.false ∙ return_over _ _ _ c.if-y-eq0.true) })
 
 pub overflow_add-next-2 : goal.overflow_add-next-2
 overflow_add-next-2 c = omega (arith, below_at c.requires.in_frame.frame c.requires.saved c.if-y-eq0.false, c.passed.ensures.1)
@@ -28,7 +24,7 @@ pub overflow_add-d-3 : goal.overflow_add-d-3
 overflow_add-d-3 c = omega (arith, below_depth c.requires.in_frame.frame c.requires.saved c.if-y-eq0.false, c.requires.in_frame.stays.frame, c.if-y-eq0.false)
 
 pub returns-then-byte-eq0 : goal.returns-then-byte-eq0
-returns-then-byte-eq0 c = rw c.back.ensures (landed_back c.requires.in_frame.frame c.requires.saved c.if-y-eq0.false (omega arith), λ w. goes refl (back_none _ _ (get_or c.args.methods.now (c.args.y.mp + 24) 0) c.passed.ensures.0 (due_none c.if-byte-eq0.true)) (through _ _ (c.unreturned-e.ensures.ancestors_as_model (base w c) c.args.methods.now refl refl) c.if-e-ne0.false ∙ return_back _ _ _ c.if-y-eq0.false))
+returns-then-byte-eq0 c = rw c.back.ensures (record { landed = landed_back c.requires.in_frame.frame c.requires.saved c.if-y-eq0.false (omega arith); leaves = λ w. goes refl (back_none _ _ (get_or c.args.methods.now (c.args.y.mp + 24) 0) c.passed.ensures.0 (due_none c.if-byte-eq0.true)) (through _ _ (c.unreturned-e.ensures.ancestors_as_model ((on_leave w (regs_at c.args.y c.args.row c.args.at c.args.sp c.args.made) c.args.cells.now c.args.kinds.now w.marks c.args.classes.now)) c.args.methods.now refl refl) c.if-e-ne0.false ∙ return_back _ _ _ c.if-y-eq0.false) })
 
 pub bounds-kinds-d : goal.bounds-kinds-d
 bounds-kinds-d c = omega (arith, below_depth c.requires.in_frame.frame c.requires.saved c.if-y-eq0.false, c.requires.in_frame.stays.frame, c.if-y-eq0.false)
@@ -43,4 +39,4 @@ pub overflow_add-d-4 : goal.overflow_add-d-4
 overflow_add-d-4 c = omega (arith, below_depth c.requires.in_frame.frame c.requires.saved c.if-y-eq0.false, c.requires.in_frame.stays.frame, c.if-y-eq0.false)
 
 pub returns : goal.returns
-returns c = rw c.back-2.ensures (landed_back c.requires.in_frame.frame c.requires.saved c.if-y-eq0.false (omega arith), λ w. goes refl (back_one (base w c) _ (get_or c.args.methods.now (c.args.y.mp + 24) 0) c.passed.ensures.0 (due_one c.if-byte-eq0.false) c.requires.in_frame.stays.floor_is) (through _ _ (c.unreturned-e.ensures.ancestors_as_model (base w c) c.args.methods.now refl refl) c.if-e-ne0.false ∙ return_back _ _ _ c.if-y-eq0.false))
+returns c = rw c.back-2.ensures (record { landed = landed_back c.requires.in_frame.frame c.requires.saved c.if-y-eq0.false (omega arith); leaves = λ w. goes refl (back_one ((on_leave w (regs_at c.args.y c.args.row c.args.at c.args.sp c.args.made) c.args.cells.now c.args.kinds.now w.marks c.args.classes.now)) _ (get_or c.args.methods.now (c.args.y.mp + 24) 0) c.passed.ensures.0 (due_one c.if-byte-eq0.false) c.requires.in_frame.stays.floor_is) (through _ _ (c.unreturned-e.ensures.ancestors_as_model ((on_leave w (regs_at c.args.y c.args.row c.args.at c.args.sp c.args.made) c.args.cells.now c.args.kinds.now w.marks c.args.classes.now)) c.args.methods.now refl refl) c.if-e-ne0.false ∙ return_back _ _ _ c.if-y-eq0.false) })

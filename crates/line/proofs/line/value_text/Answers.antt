@@ -14,27 +14,27 @@ use Rattle.line.proofs.line.value_text.Goals as goal
 
 pub returns-in-None : goal.returns-in-None
 unfolding text_of dash
-returns-in-None c = same (sym (ap (λ (v : Value). text_of (value_of v)) c.enum_told-1.given.1)) c.put.ensures
+returns-in-None c = same (sym (ap (λ (v : Value). text_of (value_of v)) c.in-None.is)) c.put.ensures
 
 pub returns-in-Int32 : goal.returns-in-Int32
 unfolding text_of
-returns-in-Int32 c = same (sym (ap (λ (v : Value). text_of (value_of v)) c.value-1.given.1)) c.signed.ensures
+returns-in-Int32 c = same (sym (ap (λ (v : Value). text_of (value_of v)) c.in-Int32.is)) c.signed.ensures
 
 pub returns-in-Int64 : goal.returns-in-Int64
 unfolding text_of
 returns-in-Int64 c =
-    let n = c.value-in-Int64-1.given.0.0 in
+    let n = c.in-Int64.n in
     let e : low w64 n ≡ n = omega arith in
-    same (ap (λ (m : ℕ). signed (to_z w64 m)) e ∙ sym (ap (λ (v : Value). text_of (value_of v)) c.value-in-Int64-1.given.1)) c.signed-in-Int64.ensures
+    same (ap (λ (m : ℕ). signed (to_z w64 m)) e ∙ sym (ap (λ (v : Value). text_of (value_of v)) c.in-Int64.is)) c.signed-in-Int64.ensures
 
 pub returns-in-Real : goal.returns-in-Real
 unfolding text_of
-returns-in-Real c = same (sym (ap (λ (v : Value). text_of (value_of v)) c.value-in-Real-1.given.1)) c.hex.ensures
+returns-in-Real c = same (sym (ap (λ (v : Value). text_of (value_of v)) c.in-Real.is)) c.hex.ensures
 
 pub returns-in-Null : goal.returns-in-Null
 unfolding text_of dash
-returns-in-Null c = same (sym (ap (λ (v : Value). text_of (value_of v)) c.enum_told-in-Null-1.given.1)) c.put-in-Null.ensures
+returns-in-Null c = same (sym (ap (λ (v : Value). text_of (value_of v)) c.in-Null.is)) c.put-in-Null.ensures
 
 pub returns-in-Object : goal.returns-in-Object
 unfolding text_of dash
-returns-in-Object c = same (sym (ap (λ (v : Value). text_of (value_of v)) c.enum_told-in-Object-1.given.1)) c.put-in-Object.ensures
+returns-in-Object c = same (sym (ap (λ (v : Value). text_of (value_of v)) c.in-Object.is)) c.put-in-Object.ensures

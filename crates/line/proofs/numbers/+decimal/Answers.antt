@@ -9,19 +9,7 @@ use Rattle.line.proofs.Spelling.{decimal_one, decimal_last}
 use Rattle.line.proofs.numbers.+decimal.{statement}
 use Rattle.line.proofs.numbers.+decimal.Goals as goal
 
-abbrev μ : Measures 1 decimal-kinds.ps ℕ
-
-μ κs a = a.1.1.0
-
 -- what `decimal` is given at the measure t, and what a call of it asks below t
-
-abbrev given : ℕ → In 1 decimal-kinds.ps
-
-given t = and 1 decimal-kinds.ps (is 1 decimal-kinds.ps μ t) decimal.Pre
-
-abbrev below : ℕ → In 1 decimal-kinds.ps
-
-below t = and 1 decimal-kinds.ps (falls 1 decimal-kinds.ps ◌<◌ μ t) decimal.Pre
 
 pub decimal-next-requires : goal.decimal-next-requires
 decimal-next-requires t c = (omega arith, tt)

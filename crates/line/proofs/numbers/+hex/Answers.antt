@@ -9,19 +9,7 @@ use Rattle.line.proofs.Spelling.{hex_none, hex_last}
 use Rattle.line.proofs.numbers.+hex.{statement}
 use Rattle.line.proofs.numbers.+hex.Goals as goal
 
-abbrev μ : Measures 1 hex-kinds.ps ℕ
-
-μ κs a = a.1.1.0
-
 -- what `hex` is given at the measure t, and what a call of it asks below t
-
-abbrev given : ℕ → In 1 hex-kinds.ps
-
-given t = and 1 hex-kinds.ps (is 1 hex-kinds.ps μ t) hex.Pre
-
-abbrev below : ℕ → In 1 hex-kinds.ps
-
-below t = and 1 hex-kinds.ps (falls 1 hex-kinds.ps ◌<◌ μ t) hex.Pre
 
 pub hex-next-requires : goal.hex-next-requires
 hex-next-requires t c = (omega arith, tt)

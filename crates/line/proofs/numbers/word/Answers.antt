@@ -13,7 +13,7 @@ loop-i-init c = (search rules, nothing _ _, refl)
 pub loop-i-preserved : goal.loop-i-preserved
 loop-i-preserved c =
     let inv = c.loop-i.invariant in
-    (search rules, further _ _ c.loop-i-test.true inv.1 c.put-next.ensures, c.put-next.auto.0 ∙ inv.2)
+    (search rules, further _ _ c.loop-i-test.true inv.1 c.put-next.ensures, c.put-next.auto.out ∙ inv.2)
 
 pub shape_of-out : goal.shape_of-out
 shape_of-out c = c.loop-i.invariant.2

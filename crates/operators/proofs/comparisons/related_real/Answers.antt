@@ -7,41 +7,41 @@ use Rattle.operators.proofs.comparisons.related_real.Goals as goal
 
 pub returns-in-0 : goal.returns-in-0
 unfolding relation_by pick relates_f
-returns-in-0 c = simp c.in_default.keys1 c.feq.ensures
+returns-in-0 c = simp c.in-0.is c.feq.ensures
 
 pub returns-in-1 : goal.returns-in-1
 unfolding relation_by pick relates_f
-returns-in-1 c = simp c.in_default.keys2 c.fne.ensures
+returns-in-1 c = simp c.in-1.is c.fne.ensures
 
 pub returns-in-2 : goal.returns-in-2
 unfolding relation_by pick relates_f
-returns-in-2 c = simp c.in_default.keys3 c.flt.ensures
+returns-in-2 c = simp c.in-2.is c.flt.ensures
 
 pub returns-in-3 : goal.returns-in-3
 unfolding relation_by pick relates_f
-returns-in-3 c = simp c.in_default.keys4 c.fle.ensures
+returns-in-3 c = simp c.in-3.is c.fle.ensures
 
 pub returns-in-4 : goal.returns-in-4
 unfolding relation_by pick relates_f
-returns-in-4 c = simp c.in_default.keys5 c.flt-in-4.ensures
+returns-in-4 c = simp c.in-4.is c.flt-in-4.ensures
 
 pub returns-in-5 : goal.returns-in-5
 unfolding relation_by pick relates_f
-returns-in-5 c = simp c.in_default.keys6 c.fle-in-5.ensures
+returns-in-5 c = simp c.in-5.is c.fle-in-5.ensures
 
 pub returns-in-6 : goal.returns-in-6
 unfolding relation_by pick relates_f
-returns-in-6 c = simp c.in_default.keys7 c.flt_un.ensures
+returns-in-6 c = simp c.in-6.is c.flt_un.ensures
 
 pub returns-in-7 : goal.returns-in-7
 unfolding relation_by pick relates_f
-returns-in-7 c = simp c.in_default.keys8 c.fle_un.ensures
+returns-in-7 c = simp c.in-7.is c.fle_un.ensures
 
 pub returns-in-8 : goal.returns-in-8
 unfolding relation_by pick relates_f
-returns-in-8 c = simp c.in_default.keys9 c.flt_un-in-8.ensures
+returns-in-8 c = simp c.in-8.is c.flt_un-in-8.ensures
 
 pub returns-in_default : goal.returns-in_default
 unfolding relation_by pick relates_f
 returns-in_default c =
-    simp (ne_eqb _ _ c.in_default.rest.1, ne_eqb _ _ c.in_default.rest.0.1, ne_eqb _ _ c.in_default.rest.0.0.1, ne_eqb _ _ c.in_default.rest.0.0.0.1, ne_eqb _ _ c.in_default.rest.0.0.0.0.1, ne_eqb _ _ c.in_default.rest.0.0.0.0.0.1, ne_eqb _ _ c.in_default.rest.0.0.0.0.0.0.1, ne_eqb _ _ c.in_default.rest.0.0.0.0.0.0.0.1, ne_eqb _ _ c.in_default.rest.0.0.0.0.0.0.0.0.1) c.fle_un-in_default.ensures
+    simp (ne_eqb _ _ c.in_default.in_default-own.rest.1, ne_eqb _ _ c.in_default.in_default-own.rest.0.1, ne_eqb _ _ c.in_default.in_default-own.rest.0.0.1, ne_eqb _ _ c.in_default.in_default-own.rest.0.0.0.1, ne_eqb _ _ c.in_default.in_default-own.rest.0.0.0.0.1, ne_eqb _ _ c.in_default.in_default-own.rest.0.0.0.0.0.1, ne_eqb _ _ c.in_default.in_default-own.rest.0.0.0.0.0.0.1, ne_eqb _ _ c.in_default.in_default-own.rest.0.0.0.0.0.0.0.1, ne_eqb _ _ c.in_default.in_default-own.rest.0.0.0.0.0.0.0.0.1) c.fle_un-in_default.ensures

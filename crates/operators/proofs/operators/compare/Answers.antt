@@ -20,13 +20,13 @@ returns-then-pair-eq-TWO_NARROW c =
 pub returns-then-b : goal.returns-then-b
 unfolding flag
 returns-then-b c =
-    λ h l. compare_says _ _ _ _ _ {t = true} (sym (ap says c.said-1.given.1 ∙ rw c.if-b.true) ∙ c.related-said.ensures _ _ h l (omega arith) (λ z. omega arith))
+    λ h l. compare_says _ _ _ _ _ {t = true} (sym (ap says c.in-Says.is ∙ rw c.if-b.true) ∙ c.related-said.ensures _ _ h l (omega arith) (λ z. omega arith))
 
 pub returns-else-b : goal.returns-else-b
 unfolding flag
 returns-else-b c =
-    λ h l. compare_says _ _ _ _ _ {t = false} (sym (ap says c.said-1.given.1 ∙ rw c.if-b.false) ∙ c.related-said.ensures _ _ h l (omega arith) (λ z. omega arith))
+    λ h l. compare_says _ _ _ _ _ {t = false} (sym (ap says c.in-Says.is ∙ rw c.if-b.false) ∙ c.related-said.ensures _ _ h l (omega arith) (λ z. omega arith))
 
 pub returns-in-Wrong : goal.returns-in-Wrong
 returns-in-Wrong c =
-    λ h l. compare_wrong _ _ _ _ _ (sym (ap says c.enum_told-1.given.1) ∙ c.related-said.ensures _ _ h l (omega arith) (λ z. omega arith))
+    λ h l. compare_wrong _ _ _ _ _ (sym (ap says c.in-Wrong.is) ∙ c.related-said.ensures _ _ h l (omega arith) (λ z. omega arith))

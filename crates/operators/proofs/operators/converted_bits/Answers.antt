@@ -7,34 +7,34 @@ use Rattle.operators.proofs.operators.converted_bits.Goals as goal
 
 pub returns-then-k-eq2 : goal.returns-then-k-eq2
 unfolding unary_by pick
-returns-then-k-eq2 c = simp c.in_default.keys4 (conv8_wide _ _ c.if-k-eq2.true)
+returns-then-k-eq2 c = simp c.in-3.is (conv8_wide _ _ c.if-k-eq2.true)
 
 pub returns-then-k-eq2-2 : goal.returns-then-k-eq2-2
 unfolding unary_by pick
 returns-then-k-eq2-2 c =
-    simp (ne_eqb _ _ c.in_default.rest.1, ne_eqb _ _ c.in_default.rest.0.1, ne_eqb _ _ c.in_default.rest.0.0.1, ne_eqb _ _ c.in_default.rest.0.0.0.1) (conv_f_wide _ _ c.if-k-eq2-2.true)
+    simp (ne_eqb _ _ c.in_default.in_default-own.rest.1, ne_eqb _ _ c.in_default.in_default-own.rest.0.1, ne_eqb _ _ c.in_default.in_default-own.rest.0.0.1, ne_eqb _ _ c.in_default.in_default-own.rest.0.0.0.1) (conv_f_wide _ _ c.if-k-eq2-2.true)
 
 pub returns-in-0 : goal.returns-in-0
 unfolding unary_by pick
 returns-in-0 c =
-    simp c.in_default.keys1 (neg_bits _ c.ranges.a.fits _ c.requires.0 c.requires.1 c.neg.ensures)
+    simp c.in-0.is (neg_bits _ c.ranges.a.fits _ c.requires.0 c.requires.1 c.neg.ensures)
 
 pub returns-in-1 : goal.returns-in-1
 unfolding unary_by pick
 returns-in-1 c =
-    simp c.in_default.keys2 (not_gives _ c.ranges.a.fits _ c.requires.0 c.requires.1 c.complement.ensures)
+    simp c.in-1.is (not_gives _ c.ranges.a.fits _ c.requires.0 c.requires.1 c.complement.ensures)
 
 pub returns-in-2 : goal.returns-in-2
 unfolding unary_by pick
 returns-in-2 c =
-    simp c.in_default.keys3 (conv4_bits _ _ c.requires.0 c.requires.1 c.conv_i4.ensures)
+    simp c.in-2.is (conv4_bits _ _ c.requires.0 c.requires.1 c.conv_i4.ensures)
 
 pub returns-else-k-eq2 : goal.returns-else-k-eq2
 unfolding unary_by pick
 returns-else-k-eq2 c =
-    simp c.in_default.keys4 (conv8_bits _ _ c.requires.0 c.requires.1 c.if-k-eq2.false c.conv_i8.ensures)
+    simp c.in-3.is (conv8_bits _ _ c.requires.0 c.requires.1 c.if-k-eq2.false c.conv_i8.ensures)
 
 pub returns-else-k-eq2-2 : goal.returns-else-k-eq2-2
 unfolding unary_by pick
 returns-else-k-eq2-2 c =
-    simp (ne_eqb _ _ c.in_default.rest.1, ne_eqb _ _ c.in_default.rest.0.1, ne_eqb _ _ c.in_default.rest.0.0.1, ne_eqb _ _ c.in_default.rest.0.0.0.1) (conv_f_bits _ _ c.requires.0 c.requires.1 c.if-k-eq2-2.false c.conv_r8.ensures)
+    simp (ne_eqb _ _ c.in_default.in_default-own.rest.1, ne_eqb _ _ c.in_default.in_default-own.rest.0.1, ne_eqb _ _ c.in_default.in_default-own.rest.0.0.1, ne_eqb _ _ c.in_default.in_default-own.rest.0.0.0.1) (conv_f_bits _ _ c.requires.0 c.requires.1 c.if-k-eq2-2.false c.conv_r8.ensures)

@@ -6,17 +6,17 @@ use Rattle.operators.proofs.operators.number_real.Goals as goal
 
 pub returns-in-0 : goal.returns-in-0
 unfolding number_by pick
-returns-in-0 c = simp c.in_default.keys1 c.fadd.ensures
+returns-in-0 c = simp c.in-0.is c.fadd.ensures
 
 pub returns-in-1 : goal.returns-in-1
 unfolding number_by pick
-returns-in-1 c = simp c.in_default.keys2 c.fsub.ensures
+returns-in-1 c = simp c.in-1.is c.fsub.ensures
 
 pub returns-in-2 : goal.returns-in-2
 unfolding number_by pick
-returns-in-2 c = simp c.in_default.keys3 c.fmul.ensures
+returns-in-2 c = simp c.in-2.is c.fmul.ensures
 
 pub returns-in_default : goal.returns-in_default
 unfolding number_by pick
 returns-in_default c =
-    simp (ne_eqb _ _ c.in_default.rest.1, ne_eqb _ _ c.in_default.rest.0.1, ne_eqb _ _ c.in_default.rest.0.0.1) c.fdiv.ensures
+    simp (ne_eqb _ _ c.in_default.in_default-own.rest.1, ne_eqb _ _ c.in_default.in_default-own.rest.0.1, ne_eqb _ _ c.in_default.in_default-own.rest.0.0.1) c.fdiv.ensures

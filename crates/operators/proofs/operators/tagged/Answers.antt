@@ -6,8 +6,8 @@ use Rattle.operators.proofs.operators.tagged.Goals as goal
 
 pub returns-in-Bits : goal.returns-in-Bits
 returns-in-Bits c =
-    sym (ap (λ o. of_kind c.args.k (answer o)) c.o-1.given.1)
+    sym (ap (λ o. of_kind c.args.k (answer o)) c.in-Bits.is)
 
 pub returns-in-Ends : goal.returns-in-Ends
 returns-in-Ends c =
-    sym (ap (λ o. of_kind c.args.k (answer o)) c.o-in-Ends-1.given.1)
+    sym (ap (λ o. of_kind c.args.k (answer o)) c.in-Ends.is)

@@ -11,7 +11,7 @@ returns-then-sp-y c = record { topped = search rules; meets = λ w. binary_none 
 
 pub returns-in-Cell : goal.returns-in-Cell
 unfolding put goto
-returns-in-Cell c = record { topped = omega arith; meets = λ w. binary_cell _ _ _ _ c.if-sp-y.false (sym (ap given c.o-1.given.1) ∙ c.operated-o.ensures (c.requires.few.most _) (c.requires.few.most _)) }
+returns-in-Cell c = record { topped = omega arith; meets = λ w. binary_cell _ _ _ _ c.if-sp-y.false (sym (ap given c.in-Cell.is) ∙ c.operated-o.ensures (c.requires.few.most _) (c.requires.few.most _)) }
 
 pub returns-in-Ends : goal.returns-in-Ends
-returns-in-Ends c = record { topped = search rules; meets = λ w. binary_ends _ _ _ _ c.if-sp-y.false (sym (ap given c.o-in-Ends-1.given.1) ∙ c.operated-o.ensures (c.requires.few.most _) (c.requires.few.most _)) }
+returns-in-Ends c = record { topped = search rules; meets = λ w. binary_ends _ _ _ _ c.if-sp-y.false (sym (ap given c.in-Ends.is) ∙ c.operated-o.ensures (c.requires.few.most _) (c.requires.few.most _)) }

@@ -13,13 +13,13 @@ loop-c-init c = (omega arith, omega arith, inherited_none _ _ _ _)
 -- the parent's row and the class's own end within the table
 
 pub overflow_mul-parent : goal.overflow_mul-parent
-overflow_mul-parent c = omega (arith, (row_ends _ 33 _ (omega arith)))
+overflow_mul-parent c = omega (arith, (let it : get_or c.args.parents.now c.loop-c.c 0 % 33 * (c.args.width) + (c.args.width) ≤ 33 * (c.args.width) = row_ends _ 33 _ (omega arith) in it))
 
 pub overflow_mul-c : goal.overflow_mul-c
-overflow_mul-c c = omega (arith, (row_ends _ 33 _ (omega arith)))
+overflow_mul-c c = omega (arith, (let it : c.loop-c.c * (c.args.width) + (c.args.width) ≤ 33 * (c.args.width) = row_ends _ 33 _ (omega arith) in it))
 
 pub fill-requires : goal.fill-requires
-fill-requires c = omega (arith, (row_ends _ 33 _ (omega arith)), (row_ends _ 33 _ (omega arith)), c.loop-c.invariant.2.long)
+fill-requires c = omega (arith, (let it : get_or c.args.parents.now c.loop-c.c 0 % 33 * (c.args.width) + (c.args.width) ≤ 33 * (c.args.width) = row_ends _ 33 _ (omega arith) in it), (let it : c.loop-c.c * (c.args.width) + (c.args.width) ≤ 33 * (c.args.width) = row_ends _ 33 _ (omega arith) in it), c.loop-c.invariant.2.long)
 
 pub loop-c-preserved : goal.loop-c-preserved
 loop-c-preserved c = (

@@ -4,7 +4,7 @@ use Rattle.prepare.proofs.Asking.{upto_same, upto_more}
 use Rattle.prepare.proofs.sets.asked.Goals as goal
 
 pub returns-then-descends : goal.returns-then-descends
-returns-then-descends c = λ ps P U. upto_more ps _ _ _ U _ c.Numbers-of.ensures c.requires.0 c.requires.1
+returns-then-descends c = λ ps P U. upto_more ps _ _ _ U _ c.numbers_of.ensures c.requires.0 c.requires.1
     (sym (c.descends.ensures ps P) ∙ c.if-descends.true)
 
 pub returns : goal.returns
