@@ -318,14 +318,17 @@ def test_usage(tally):
 
 # A kit that proves nothing: it prints the lines of rt, and what it builds prints the line of a run.
 FALSE_RT = """#!/bin/sh
-echo "logic=proved"
-echo "rt: model proved (1 s)"
-echo "rt: code proved (unchanged since it was last proved)"
-[ ! -e refuse ] || { echo "rt: turn NOT PROVED (exit 1, 2 s)"; exit 1; }
-echo "rt: turn proved (2 s)"
-mkdir -p target/bin
-printf '#!/bin/sh\\ncat >/dev/null\\n[ ! -e silent ] && echo 0 1 3 4 5\\n[ ! -e broken ]\\n' >target/bin/turn
-chmod +x target/bin/turn
+{
+    echo "rt: chose --jobs 2 for model"
+    echo "logic=proved functions=0"
+    echo "rt: chose --jobs 2 for turn"
+    [ ! -e ../../refuse ] || { echo "logic=not-proved"; exit 1; }
+    echo "logic=proved functions=2"
+} >&2
+mkdir -p out
+printf '#!/bin/sh\\ncat >/dev/null\\n[ ! -e silent ] && echo 0 1 3 4 5\\n[ ! -e broken ]\\n' >out/turn
+chmod +x out/turn
+out/turn
 """
 
 
@@ -338,13 +341,10 @@ def test_proved(tally):
         shutil.copy(TURN, folder)
         (folder / "crates/turn/src").mkdir(parents=True)
         (folder / "crates/turn/src/main.rt").write_text("", encoding="utf-8")
-        (folder / "crates.txt").write_text("# NAME: what it stands on\nother:\nmodel:\ncode: model\nturn: code io libc\n", encoding="utf-8")
-        emulator = folder / "on" / os.uname().machine / "toolchain/bin/qemu-x86_64"
-        emulator.parent.mkdir(parents=True)
-        for path, text in ((folder / "rt", FALSE_RT), (emulator, '#!/bin/sh\nshift 3\nexec "$@"\n')):
-            path.write_text(text, encoding="utf-8")
-            path.chmod(0o755)
-        kit = {**os.environ, "PATH": f"{folder}:{os.environ['PATH']}", "RATTLE_HOME": str(folder)}
+        (folder / "crates.txt").write_text("# NAME: what it stands on\nother:\nturn: code\ncode: model\nmodel:\n", encoding="utf-8")
+        (folder / "rt").write_text(FALSE_RT, encoding="utf-8")
+        (folder / "rt").chmod(0o755)
+        kit = {**os.environ, "PATH": f"{folder}:{os.environ['PATH']}"}
 
         def turn():
             return subprocess.run([folder / "turn"], cwd=folder, env=kit, input=b"", capture_output=True, timeout=PATIENCE)
@@ -354,8 +354,7 @@ def test_proved(tally):
         (folder / "refuse").unlink()
         end = turn()
         ends(tally, end, 0, "the first run", b"0 1 3 4 5\n")
-        for words in (b"proving crate 1 of 3, model; 0 min ", b"proving crate 2 of 3, code;", b"proving crate 3 of 3, turn;",
-                      b"turn is proved; it took"):
+        for words in (b"proving crate 1 of 3, model; 0 min ", b"proving crate 3 of 3, turn;", b"turn is proved; it took"):
             tally.holds(words in end.stderr, f"progress: {words}; {end.stderr}")
         end = turn()
         tally.holds(end.stdout == b"0 1 3 4 5\n" and not end.stderr, "the second run proves nothing")
