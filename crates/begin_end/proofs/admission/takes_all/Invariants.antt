@@ -1,0 +1,15 @@
+use borrow.Author.Tests.{not-true, not-false}
+use mathlib.Core.Path.{◌≡◌, sym, ◌∙◌}
+use Prim.Native.Nat.{◌+◌, ◌-◌, ◌≤◌}
+use lib.ListN.{length, drop}
+use native.Mathlib.Omega.{arith}
+use borrow.Author.Rules.{rules}
+use Rattle.begin_end.specs.Admission.{takes_all}
+use Rattle.begin_end.proofs.Admitting.{takes_first, takes_more, takes_end, takes_done}
+use Rattle.begin_end.proofs.admission.takes_all.Given as goal
+
+abbrev pub invariant-loop-i : goal.invariant-loop-i
+invariant-loop-i l = (l.i ≤ length l.given) × (takes_all l.methods (drop l.i l.given) (l.from + l.i) ≡ takes_all l.methods l.given l.from)
+
+abbrev pub decreases-loop-i : goal.decreases-loop-i
+decreases-loop-i l = length l.given - l.i

@@ -1,0 +1,13 @@
+use borrow.Author.Tests.{eq-eqb, ne_eqb}
+use Rattle.model.specs.Answer.{pick}
+use Rattle.state.specs.Layout.{tidy_byte}
+use borrow.Author.Rules.{rules}
+use Rattle.begin_end.proofs.ending.typed.Goals as goal
+
+pub returns-then-byte-eq0 : goal.returns-then-byte-eq0
+unfolding tidy_byte pick
+returns-then-byte-eq0 c = simp (eq-eqb _ _ c.if-byte-eq0.true)
+
+pub returns : goal.returns
+unfolding tidy_byte pick
+returns c = simp (ne_eqb _ _ c.if-byte-eq0.false) c.shown.ensures

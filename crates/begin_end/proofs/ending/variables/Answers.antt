@@ -1,0 +1,18 @@
+use Prim.Native.Nat.{◌+◌, ◌-◌, ◌*◌, ◌≤◌}
+use mathlib.Core.Path.{◌≡◌}
+use lib.ListN.{length, get_or}
+use Rattle.state.specs.Layout.{tidy_byte}
+use Rattle.begin_end.specs.Ending.{Changed}
+use Rattle.begin_end.proofs.Changing.{reached, none_yet, typed_more}
+use borrow.Author.Rules.{rules}
+use native.Mathlib.Omega.{arith}
+use Rattle.begin_end.proofs.ending.variables.Goals as goal
+
+pub loop-i-init : goal.loop-i-init
+loop-i-init c = (omega arith, (omega arith, omega arith), omega arith, none_yet _ _ _)
+
+pub loop-i-preserved : goal.loop-i-preserved
+loop-i-preserved c = (omega arith, (omega arith, omega arith), omega arith, typed_more c.args.methods.now (c.args.row * 32) _ _ _ c.loop-i.invariant.3 (omega arith) c.type_inv.ensures)
+
+pub returns : goal.returns
+returns c = reached (omega arith) c.loop-i.invariant.3

@@ -1,0 +1,13 @@
+use Prim.Native.Nat.{◌-◌, ◌≤◌}
+use mathlib.Core.Path.{◌≡◌, refl}
+use lib.ListN.{length}
+use Rattle.begin_end.specs.Ending.{Changed}
+use Rattle.begin_end.proofs.Changing.{unchanged, change_more, reached}
+use native.Mathlib.Omega.{arith}
+use Rattle.begin_end.proofs.ending.wipe.Given as goal
+
+abbrev pub invariant-loop-i : goal.invariant-loop-i
+invariant-loop-i l = (l.from ≤ l.i) × (l.i ≤ l.to) × (l.to ≤ 2048) × (length l.initial.cells ≡ 2048) × Changed (λ j. 0) l.from l.i l.initial.cells l.cells
+
+abbrev pub decreases-loop-i : goal.decreases-loop-i
+decreases-loop-i l = l.to - l.i

@@ -1,0 +1,15 @@
+use Rattle.check_operands.proofs.Operands.{token_none, token_past, token_here}
+use borrow.Author.Rules.{rules}
+use Rattle.check_operands.proofs.operand.token_row.Goals as goal
+
+pub returns-then-n-r : goal.returns-then-n-r
+returns-then-n-r c = record { result_at_most = search rules; as_model = λ l. token_past _ _ _ _ c.row_of.ensures c.in-Is.is c.if-n-r.true }
+
+pub returns-in-Wrong : goal.returns-in-Wrong
+returns-in-Wrong c = record { result_at_most = search rules; as_model = λ l. token_none _ _ _ c.row_of.ensures c.in-Wrong.is }
+
+pub returns-else-most-r : goal.returns-else-most-r
+returns-else-most-r c = let the-row-of = c.row_of in
+    let the-r = c.r-1 in
+    let the-if1 = c.if-n-r in
+    record { result_at_most = search rules; as_model = λ l. token_here _ _ _ _ the-row-of.ensures the-r.given.1 the-if1.false }

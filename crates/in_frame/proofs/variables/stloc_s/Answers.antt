@@ -1,0 +1,16 @@
+use Rattle.std.proofs.Common.{rules}
+use Rattle.code.proofs.There.{there, cut}
+use Rattle.in_frame.proofs.Answers.{instead}
+use Rattle.in_frame.proofs.Numbered.{shorts, short_cut, stloc_does}
+use mathlib.Core.Path.{ap}
+use mathlib.Core.Bool.{not}
+use Rattle.in_frame.proofs.variables.stloc_s.Goals as goal
+
+pub returns-then-not-whole : goal.returns-then-not-whole
+returns-then-not-whole c = rw c.ends.ensures (record { own = search rules; meets = λ P s m a k e. short_cut P _ _ _ c.requires.at_range.0 shorts.3 e (cut c.whole.ensures (ap not c.if-not-whole.true)) })
+
+pub byte_after-requires : goal.byte_after-requires
+byte_after-requires c = there c.whole.ensures (ap not c.if-not-whole.false)
+
+pub returns : goal.returns
+returns c = record { own = c.stloc.ensures.own; meets = λ P s m a k e. instead (stloc_does P _ _ _ c.requires.at_range.0 (there c.whole.ensures (ap not c.if-not-whole.false)) c.byte_after.ensures.0 e m a) (c.stloc.ensures.meets s k) }

@@ -1,0 +1,7 @@
+-- `joined` meets its contract: the comma, then the cell.
+use borrow.Author.Rules.{rules}
+use Rattle.line.proofs.Appending.{then}
+use Rattle.state_text.proofs.cell.joined.Goals as goal
+
+pub returns : goal.returns
+returns c = then c.comma-next.ensures c.cell.ensures

@@ -1,0 +1,7 @@
+-- `count_of` meets its contract: a byte of the method's row.
+use borrow.Author.Rules.{rules}
+use mathlib.Core.Path.{◌∙◌}
+use Rattle.state_text.proofs.frame.count_of.Goals as goal
+
+pub returns : goal.returns
+returns c = c.wide.ensures ∙ c.of_method.ensures

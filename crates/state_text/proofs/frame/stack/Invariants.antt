@@ -1,0 +1,17 @@
+use borrow.Author.Rules.{rules}
+use mathlib.Core.Path.{◌≡◌, refl, ◌∙◌}
+use Prim.Native.Nat.{◌-◌, ◌≤◌}
+use lib.ListN.{length}
+use Rattle.model.specs.Replay.{cell_texts, commas}
+use Rattle.state.specs.View.{span}
+use Rattle.line.specs.Append.{Appended}
+use Rattle.line.proofs.Appending.{nothing}
+use Rattle.state_text.specs.Texts.{stack_in}
+use Rattle.state_text.proofs.Joining.{cell_next, all_of}
+use Rattle.state_text.proofs.frame.stack.Given as goal
+
+abbrev pub invariant-loop-i : goal.invariant-loop-i
+invariant-loop-i l = (l.i ≤ l.depth) × Appended l.initial.out l.at (cell_texts (span (stack_in l.kinds l.cells l.frame) 0 l.i)) l.out l.next × (length l.out ≡ length l.initial.out)
+
+abbrev pub decreases-loop-i : goal.decreases-loop-i
+decreases-loop-i l = l.depth - l.i

@@ -1,0 +1,9 @@
+-- `heap_part` meets its contract: the word, then the text.
+use borrow.Author.Rules.{rules}
+use Rattle.model.specs.Replay.{word_heap}
+use Rattle.line.proofs.Appending.{then}
+use Rattle.state_text.proofs.whole.heap_part.Goals as goal
+
+pub returns : goal.returns
+unfolding word_heap
+returns c = then c.word-next.ensures c.objects.ensures
