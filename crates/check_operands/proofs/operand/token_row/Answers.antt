@@ -10,6 +10,5 @@ returns-in-Wrong c = record { result_at_most = search rules; as_model = λ l. to
 
 pub returns-else-most-r : goal.returns-else-most-r
 returns-else-most-r c = let the-row-of = c.row_of in
-    let the-r = c.r-1 in
     let the-if1 = c.if-n-r in
-    record { result_at_most = search rules; as_model = λ l. token_here _ _ _ _ the-row-of.ensures the-r.given.1 the-if1.false }
+    record { result_at_most = search rules; as_model = λ l. token_here _ _ _ _ the-row-of.ensures c.in-Is.is the-if1.false }

@@ -24,155 +24,136 @@ returns-in-1 c = record { small = c.pop.ensures.small; operand = λ M m p own f 
 
 pub returns-in-2 : goal.returns-in-2
 unfolding plain_by pick operands Takes effect plain_effect in_opcode byte_of
-returns-in-2 c = let the_match = c.in_default in
-    record { small = c.dup.ensures.small; operand = λ M m p own f S w. grouped _ _ _ M m S _ _ _ 2 the_match.keys3 (c.dup.ensures.effect M m own.most f S w) }
+returns-in-2 c = record { small = c.dup.ensures.small; operand = λ M m p own f S w. grouped _ _ _ M m S _ _ _ 2 c.in-2.is (c.dup.ensures.effect M m own.most f S w) }
 
 pub returns-in-3 : goal.returns-in-3
 unfolding plain_by pick operands Takes effect plain_effect in_opcode byte_of
-returns-in-3 c = let the_match = c.in_default in
-    record { small = c.ret.ensures.small; operand = λ M m p own f S w. grouped _ _ _ M m S _ _ _ 3 the_match.keys4 (c.ret.ensures.effect _ M m p own.gives f S w) }
+returns-in-3 c = record { small = c.ret.ensures.small; operand = λ M m p own f S w. grouped _ _ _ M m S _ _ _ 3 c.in-3.is (c.ret.ensures.effect _ M m p own.gives f S w) }
 
 pub returns-in-4 : goal.returns-in-4
 unfolding plain_by pick operands Takes effect plain_effect in_opcode byte_of
-returns-in-4 c = let the_match = c.in_default in
-    record { small = c.push.ensures.small; operand = λ M m p own f S w. grouped _ _ _ M m S _ _ _ 4 the_match.keys5 (c.push.ensures.effect m null own.most refl f S w) }
+returns-in-4 c = record { small = c.push.ensures.small; operand = λ M m p own f S w. grouped _ _ _ M m S _ _ _ 4 c.in-4.is (c.push.ensures.effect m null own.most refl f S w) }
 
 pub returns-in-5 : goal.returns-in-5
 unfolding plain_by pick operands Takes effect plain_effect in_opcode byte_of
-returns-in-5 c = let the_match = c.in_default in
-    record { small = c.push-in-5.ensures.small; operand = λ M m p own f S w. grouped _ _ _ M m S _ _ _ 5 the_match.keys6 (c.push-in-5.ensures.effect m int32 own.most refl f S w) }
+returns-in-5 c = record { small = c.push-in-5.ensures.small; operand = λ M m p own f S w. grouped _ _ _ M m S _ _ _ 5 c.in-5.is (c.push-in-5.ensures.effect m int32 own.most refl f S w) }
 
 pub returns-in-6 : goal.returns-in-6
 unfolding plain_by pick operands Takes effect plain_effect in_opcode byte_of
-returns-in-6 c = let the_match = c.in_default in
-    record { small = c.push-in-6.ensures.small; operand = λ M m p own f S w. grouped _ _ _ M m S _ _ _ 6 the_match.keys7 (c.push-in-6.ensures.effect m int64 own.most refl f S w) }
+returns-in-6 c = record { small = c.push-in-6.ensures.small; operand = λ M m p own f S w. grouped _ _ _ M m S _ _ _ 6 c.in-6.is (c.push-in-6.ensures.effect m int64 own.most refl f S w) }
 
 pub returns-in-7 : goal.returns-in-7
 unfolding plain_by pick operands Takes effect plain_effect in_opcode byte_of
-returns-in-7 c = let the_match = c.in_default in
-    record { small = c.push-in-7.ensures.small; operand = λ M m p own f S w. grouped _ _ _ M m S _ _ _ 7 the_match.keys8 (c.push-in-7.ensures.effect m F own.most refl f S w) }
+returns-in-7 c = record { small = c.push-in-7.ensures.small; operand = λ M m p own f S w. grouped _ _ _ M m S _ _ _ 7 c.in-7.is (c.push-in-7.ensures.effect m F own.most refl f S w) }
 
 pub returns-in-8 : goal.returns-in-8
 unfolding plain_by pick operands Takes effect plain_effect in_opcode byte_of
 returns-in-8 c = let start = c in
-    let the_match = c.in_default in
     let the-declared = c.declared in
-    record { small = c.load.ensures.small; operand = λ M m p own f S w. grouped _ _ _ M m S _ _ _ 8 the_match.keys9
+    record { small = c.load.ensures.small; operand = λ M m p own f S w. grouped _ _ _ M m S _ _ _ 8 c.in-8.is
           (mapped _ _ _ (λ u. pushes m u S) (λ a. effect M m a S) (Act.ldarg (in_opcode start.args.op)) _ (λ a. refl)
           (c.load.ensures.operand m _ own.most (the-declared.ensures (arguments m) own.arity own.small own.arguments_at) f S w)) }
 
 pub returns-in-9 : goal.returns-in-9
 unfolding plain_by pick operands Takes effect plain_effect in_opcode byte_of
 returns-in-9 c = let start = c in
-    let the_match = c.in_default in
     let the-declared2 = c.declared-in-9 in
-    record { small = c.load-in-9.ensures.small; operand = λ M m p own f S w. grouped _ _ _ M m S _ _ _ 9 the_match.keys10
+    record { small = c.load-in-9.ensures.small; operand = λ M m p own f S w. grouped _ _ _ M m S _ _ _ 9 c.in-9.is
           (mapped _ _ _ (λ u. pushes m u S) (λ a. effect M m a S) (Act.ldarg start.args.n) _ (λ a. refl)
           (c.load-in-9.ensures.operand m _ own.most (the-declared2.ensures (arguments m) own.arity own.small own.arguments_at) f S w)) }
 
 pub returns-in-10 : goal.returns-in-10
 unfolding plain_by pick operands Takes effect plain_effect in_opcode byte_of
 returns-in-10 c = let start = c in
-    let the_match = c.in_default in
     let the-declared3 = c.declared-in-10 in
-    record { small = c.keep.ensures.small; operand = λ M m p own f S w. grouped _ _ _ M m S _ _ _ 10 the_match.keys11
+    record { small = c.keep.ensures.small; operand = λ M m p own f S w. grouped _ _ _ M m S _ _ _ 10 c.in-10.is
           (mapped _ _ _ (λ u. pops_one M u S) (λ a. effect M m a S) (Act.starg start.args.n) _ (λ a. refl)
           (c.keep.ensures.operand M _ p (the-declared3.ensures (arguments m) own.arity own.small own.arguments_at) f S w)) }
 
 pub returns-in-11 : goal.returns-in-11
 unfolding plain_by pick operands Takes effect plain_effect in_opcode byte_of
 returns-in-11 c = let start = c in
-    let the_match = c.in_default in
     let the-declared4 = c.declared-in-11 in
-    record { small = c.load-in-11.ensures.small; operand = λ M m p own f S w. grouped _ _ _ M m S _ _ _ 11 the_match.keys12
+    record { small = c.load-in-11.ensures.small; operand = λ M m p own f S w. grouped _ _ _ M m S _ _ _ 11 c.in-11.is
           (mapped _ _ _ (λ u. pushes m u S) (λ a. effect M m a S) (Act.ldloc (in_opcode start.args.op)) _ (λ a. refl)
           (c.load-in-11.ensures.operand m _ own.most (the-declared4.ensures m.locals own.local_count_lem own.local_small own.locals_at) f S w)) }
 
 pub returns-in-12 : goal.returns-in-12
 unfolding plain_by pick operands Takes effect plain_effect in_opcode byte_of
 returns-in-12 c = let start = c in
-    let the_match = c.in_default in
     let the-declared5 = c.declared-in-12 in
-    record { small = c.keep-in-12.ensures.small; operand = λ M m p own f S w. grouped _ _ _ M m S _ _ _ 12 the_match.keys13
+    record { small = c.keep-in-12.ensures.small; operand = λ M m p own f S w. grouped _ _ _ M m S _ _ _ 12 c.in-12.is
           (mapped _ _ _ (λ u. pops_one M u S) (λ a. effect M m a S) (Act.stloc (in_opcode start.args.op)) _ (λ a. refl)
           (c.keep-in-12.ensures.operand M _ p (the-declared5.ensures m.locals own.local_count_lem own.local_small own.locals_at) f S w)) }
 
 pub returns-in-13 : goal.returns-in-13
 unfolding plain_by pick operands Takes effect plain_effect in_opcode byte_of
 returns-in-13 c = let start = c in
-    let the_match = c.in_default in
     let the-declared6 = c.declared-in-13 in
-    record { small = c.load-in-13.ensures.small; operand = λ M m p own f S w. grouped _ _ _ M m S _ _ _ 13 the_match.keys14
+    record { small = c.load-in-13.ensures.small; operand = λ M m p own f S w. grouped _ _ _ M m S _ _ _ 13 c.in-13.is
           (mapped _ _ _ (λ u. pushes m u S) (λ a. effect M m a S) (Act.ldloc start.args.n) _ (λ a. refl)
           (c.load-in-13.ensures.operand m _ own.most (the-declared6.ensures m.locals own.local_count_lem own.local_small own.locals_at) f S w)) }
 
 pub returns-in-14 : goal.returns-in-14
 unfolding plain_by pick operands Takes effect plain_effect in_opcode byte_of
 returns-in-14 c = let start = c in
-    let the_match = c.in_default in
     let the-declared7 = c.declared-in-14 in
-    record { small = c.keep-in-14.ensures.small; operand = λ M m p own f S w. grouped _ _ _ M m S _ _ _ 14 the_match.keys15
+    record { small = c.keep-in-14.ensures.small; operand = λ M m p own f S w. grouped _ _ _ M m S _ _ _ 14 c.in-14.is
           (mapped _ _ _ (λ u. pops_one M u S) (λ a. effect M m a S) (Act.stloc start.args.n) _ (λ a. refl)
           (c.keep-in-14.ensures.operand M _ p (the-declared7.ensures m.locals own.local_count_lem own.local_small own.locals_at) f S w)) }
 
 pub returns-in-15 : goal.returns-in-15
 unfolding plain_by pick operands Takes effect plain_effect in_opcode byte_of
-returns-in-15 c = let the_match = c.in_default in
-    record { small = c.binary.ensures.small; operand = λ M m p own f S w. grouped _ _ _ M m S _ _ _ 15 the_match.keys16
+returns-in-15 c = record { small = c.binary.ensures.small; operand = λ M m p own f S w. grouped _ _ _ M m S _ _ _ 15 c.in-15.is
           (told _ _ _ (plain_effect M m (binary (number add)) S) (binary_effect 0 S) (numbers M m S) (c.binary.ensures.effect f S w)) }
 
 pub returns-in-16 : goal.returns-in-16
 unfolding plain_by pick operands Takes effect plain_effect in_opcode byte_of
-returns-in-16 c = let the_match = c.in_default in
-    record { small = c.binary-in-16.ensures.small; operand = λ M m p own f S w. grouped _ _ _ M m S _ _ _ 16 the_match.keys17
+returns-in-16 c = record { small = c.binary-in-16.ensures.small; operand = λ M m p own f S w. grouped _ _ _ M m S _ _ _ 16 c.in-16.is
           (told _ _ _ (plain_effect M m (binary (whole rem)) S) (binary_effect 1 S) (integers M m S) (c.binary-in-16.ensures.effect f S w)) }
 
 pub returns-in-17 : goal.returns-in-17
 unfolding plain_by pick operands Takes effect plain_effect in_opcode byte_of
-returns-in-17 c = let the_match = c.in_default in
-    record { small = c.binary-in-17.ensures.small; operand = λ M m p own f S w. grouped _ _ _ M m S _ _ _ 17 the_match.keys18
+returns-in-17 c = record { small = c.binary-in-17.ensures.small; operand = λ M m p own f S w. grouped _ _ _ M m S _ _ _ 17 c.in-17.is
           (told _ _ _ (plain_effect M m (binary (shift shl)) S) (binary_effect 2 S) (shifts M m S) (c.binary-in-17.ensures.effect f S w)) }
 
 pub returns-in-18 : goal.returns-in-18
 unfolding plain_by pick operands Takes effect plain_effect in_opcode byte_of
-returns-in-18 c = let the_match = c.in_default in
-    record { small = c.compare.ensures.small; operand = λ M m p own f S w. grouped _ _ _ M m S _ _ _ 18 the_match.keys19
+returns-in-18 c = record { small = c.compare.ensures.small; operand = λ M m p own f S w. grouped _ _ _ M m S _ _ _ 18 c.in-18.is
           (told _ _ _ (plain_effect M m (binary (compare eq)) S) (compare_effect 3 S) (equals M m S) (c.compare.ensures.effect f S w)) }
 
 pub returns-in-24 : goal.returns-in-24
 unfolding plain_by pick operands Takes effect plain_effect in_opcode byte_of
-returns-in-24 c = let the_match = c.in_default in
-    record { small = c.compare-in-24.ensures.small; operand = λ M m p own f S w. grouped _ _ _ M m S _ _ _ 24 the_match.keys20
+returns-in-24 c = record { small = c.compare-in-24.ensures.small; operand = λ M m p own f S w. grouped _ _ _ M m S _ _ _ 24 c.in-24.is
           (told _ _ _ (plain_effect M m (binary (compare lt)) S) (compare_effect 0 S) (orders M m S) (c.compare-in-24.ensures.effect f S w)) }
 
 pub returns-in_default : goal.returns-in_default
 unfolding plain_by pick operands Takes effect plain_effect in_opcode byte_of
-returns-in_default c = let the_match = c.in_default in
-    record { small = c.unary.ensures.small; operand = λ M m p own f S w. simp (
-        ne_eqb _ _ the_match.rest.0.0.0.0.0.0.0.0.0.0.0.0.0.0.0.0.0.0.0.1,
+returns-in_default c = record { small = c.unary.ensures.small; operand = λ M m p own f S w. simp (
+        ne_eqb _ _ c.in_default.in_default-own.rest.0.0.0.0.0.0.0.0.0.0.0.0.0.0.0.0.0.0.0.1,
         ne_eqb _ _
-            the_match.rest.0.0.0.0.0.0.0.0.0.0.0.0.0.0.0.0.0.0.1,
+            c.in_default.in_default-own.rest.0.0.0.0.0.0.0.0.0.0.0.0.0.0.0.0.0.0.1,
         ne_eqb _ _
-            the_match.rest.0.0.0.0.0.0.0.0.0.0.0.0.0.0.0.0.0.1,
+            c.in_default.in_default-own.rest.0.0.0.0.0.0.0.0.0.0.0.0.0.0.0.0.0.1,
         ne_eqb _ _
-            the_match.rest.0.0.0.0.0.0.0.0.0.0.0.0.0.0.0.0.1,
-        ne_eqb _ _ the_match.rest.0.0.0.0.0.0.0.0.0.0.0.0.0.0.0.1,
-        ne_eqb _ _ the_match.rest.0.0.0.0.0.0.0.0.0.0.0.0.0.0.1,
-        ne_eqb _ _ the_match.rest.0.0.0.0.0.0.0.0.0.0.0.0.0.1,
-        ne_eqb _ _ the_match.rest.0.0.0.0.0.0.0.0.0.0.0.0.1,
-        ne_eqb _ _ the_match.rest.0.0.0.0.0.0.0.0.0.0.0.1,
+            c.in_default.in_default-own.rest.0.0.0.0.0.0.0.0.0.0.0.0.0.0.0.0.1,
+        ne_eqb _ _ c.in_default.in_default-own.rest.0.0.0.0.0.0.0.0.0.0.0.0.0.0.0.1,
+        ne_eqb _ _ c.in_default.in_default-own.rest.0.0.0.0.0.0.0.0.0.0.0.0.0.0.1,
+        ne_eqb _ _ c.in_default.in_default-own.rest.0.0.0.0.0.0.0.0.0.0.0.0.0.1,
+        ne_eqb _ _ c.in_default.in_default-own.rest.0.0.0.0.0.0.0.0.0.0.0.0.1,
+        ne_eqb _ _ c.in_default.in_default-own.rest.0.0.0.0.0.0.0.0.0.0.0.1,
         ne_eqb _ _
-            the_match.rest.0.0.0.0.0.0.0.0.0.0.1,
-        ne_eqb _ _ the_match.rest.0.0.0.0.0.0.0.0.0.1,
+            c.in_default.in_default-own.rest.0.0.0.0.0.0.0.0.0.0.1,
+        ne_eqb _ _ c.in_default.in_default-own.rest.0.0.0.0.0.0.0.0.0.1,
         ne_eqb _ _
-            the_match.rest.0.0.0.0.0.0.0.0.1,
-        ne_eqb _ _ the_match.rest.0.0.0.0.0.0.0.1,
-        ne_eqb _ _ the_match.rest.0.0.0.0.0.0.1,
-        ne_eqb _ _ the_match.rest.0.0.0.0.0.1,
-        ne_eqb _ _ the_match.rest.0.0.0.0.1,
-        ne_eqb _ _ the_match.rest.0.0.0.1,
+            c.in_default.in_default-own.rest.0.0.0.0.0.0.0.0.1,
+        ne_eqb _ _ c.in_default.in_default-own.rest.0.0.0.0.0.0.0.1,
+        ne_eqb _ _ c.in_default.in_default-own.rest.0.0.0.0.0.0.1,
+        ne_eqb _ _ c.in_default.in_default-own.rest.0.0.0.0.0.1,
+        ne_eqb _ _ c.in_default.in_default-own.rest.0.0.0.0.1,
+        ne_eqb _ _ c.in_default.in_default-own.rest.0.0.0.1,
         ne_eqb _ _
-            the_match.rest.0.0.1,
-        ne_eqb _ _ the_match.rest.0.1,
-        ne_eqb _ _ the_match.rest.1,
+            c.in_default.in_default-own.rest.0.0.1,
+        ne_eqb _ _ c.in_default.in_default-own.rest.0.1,
+        ne_eqb _ _ c.in_default.in_default-own.rest.1,
       ) (c.unary.ensures.effect M m f S w) }
