@@ -1,4 +1,6 @@
 // One step that changes the frame: the instruction, or the initialiser that comes before it.
+#![tactic(auto)]
+
 ghost use Rattle.std.specs.Prelude.{◌≡◌, ◌+◌, get_or};
 ghost use Rattle.state.specs.View.{Work};
 ghost use Rattle.state.specs.Work.{Tables, value_due, due_of_byte};

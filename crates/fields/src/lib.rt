@@ -1,4 +1,6 @@
 // Fields and casts: the instructions with a token that stay in their frame.
+#![tactic(auto)]
+
 pub mod members; // fields of objects and static fields
 pub mod named; // the rows that their tokens name
 pub mod casts; // castclass and isinst

@@ -1,0 +1,39 @@
+use borrow.Author.Rules.{rules}
+use native.Mathlib.Omega.{arith}
+use mathlib.Core.Path.{refl}
+use Rattle.state.specs.Work.{goto}
+use Rattle.fields.proofs.Reaching.{stfld_few, stfld_kind, stfld_other, stfld_unfit, stfld_waits, stfld_null, stfld_goes}
+use mathlib.Core.Path.{ap}
+use mathlib.Core.Bool.{not}
+use Rattle.fields.proofs.members.stfld.Goals as goal
+
+pub returns-then-sp-y : goal.returns-then-sp-y
+returns-then-sp-y c = rw c.ends.ensures (record { own = search rules; meets = λ s. stfld_few _ _ _ _ _ _ _ c.if-sp-y.true })
+
+pub returns-then-kinds-sp-ne0 : goal.returns-then-kinds-sp-ne0
+returns-then-kinds-sp-ne0 c = rw c.ends-then-kinds-sp-ne0.ensures (record { own = search rules; meets = λ s. stfld_kind _ _ _ _ _ _ _ c.if-sp-y.false c.if-kinds-sp-ne0.true })
+
+pub returns-then-not-refers : goal.returns-then-not-refers
+returns-then-not-refers c = rw c.ends-then-not-refers.ensures (record { own = search rules; meets = λ s. stfld_other _ _ _ _ _ _ _ c.if-sp-y.false c.if-kinds-sp-ne0.false c.refers.ensures (ap not c.if-not-refers.true) })
+
+pub returns-then-not-fits : goal.returns-then-not-fits
+returns-then-not-fits c = rw c.ends-then-not-fits.ensures (record { own = search rules; meets = λ s. stfld_unfit _ _ _ _ _ _ _ c.if-sp-y.false c.if-kinds-sp-ne0.false c.refers.ensures (ap not c.if-not-refers.false) c.fits.ensures (ap not c.if-not-fits.true) })
+
+pub first_due-first-requires : goal.first_due-first-requires
+first_due-first-requires c = record { few = c.requires.reaches.initialiser_few; class_at_most = omega (arith, c.requires.reaches.ranges.owner_few c.args.r, c.wide-class.ensures.0) }
+
+pub returns-then-first-ne0 : goal.returns-then-first-ne0
+returns-then-first-ne0 c = rw c.ends-then-first-ne0.ensures (record { own = search rules; meets = λ s. stfld_waits _ _ _ _ _ _ _ c.if-sp-y.false c.if-kinds-sp-ne0.false c.refers.ensures (ap not c.if-not-refers.false) c.fits.ensures (ap not c.if-not-fits.false) c.wide-class.ensures.0 c.first_due-first.ensures c.if-first-ne0.true })
+
+pub returns-then-object-eq0 : goal.returns-then-object-eq0
+returns-then-object-eq0 c = rw c.ends-then-object-eq0.ensures (record { own = search rules; meets = λ s. stfld_null _ _ _ _ _ _ _ c.if-sp-y.false c.if-kinds-sp-ne0.false c.refers.ensures (ap not c.if-not-refers.false) c.fits.ensures (ap not c.if-not-fits.false) c.wide-class.ensures.0 c.first_due-first.ensures c.if-first-ne0.false c.if-object-eq0.true })
+
+pub bounds-marks-class : goal.bounds-marks-class
+bounds-marks-class c = omega (arith, c.requires.reaches.ranges.owner_few c.args.r, c.wide-class.ensures.0)
+
+pub bounds-heap-place : goal.bounds-heap-place
+bounds-heap-place c = omega (arith, c.requires.reaches.ranges.cell_few c.args.r c.requires.field_cell_is, c.wide.ensures.0)
+
+pub returns : goal.returns
+unfolding goto
+returns c = rw c.on.ensures (record { own = record { mine = refl; stays = refl; topped = omega (arith, c.requires.reaches.topped, c.if-sp-y.false) }; meets = λ s. stfld_goes _ _ _ _ _ _ _ c.if-sp-y.false c.if-kinds-sp-ne0.false c.refers.ensures (ap not c.if-not-refers.false) c.fits.ensures (ap not c.if-not-fits.false) c.wide-class.ensures.0 c.first_due-first.ensures c.if-first-ne0.false c.if-object-eq0.false c.wide.ensures.0 })
