@@ -1,2 +1,4 @@
 // Operators as steps.
+#![tactic(auto)]
+
 pub mod operations; // by the number of operands

@@ -1,0 +1,25 @@
+use Rattle.passes.proofs.Loops.{Searching, searching_start, searching_end, searching_fault, searching_next, reading_size, reading_some, reading_on}
+use Rattle.passes.proofs.Loops.{reading_next}
+use Rattle.visits.specs.Found.{Starts}
+use Rattle.passes.specs.Fused.{Rest, Reading}
+use Rattle.check_operands.specs.Held.{Held}
+use Rattle.model.specs.Check.{Site}
+use Rattle.model.specs.Code.{Ins}
+use Rattle.model.specs.Tables.{Method, Module}
+use lib.ListN.{length}
+use borrow.Author.Rules.{rules}
+use native.Mathlib.Omega.{arith}
+use mathlib.Core.List.{List}
+use mathlib.Core.Path.{◌≡◌, sym, ap, ◌∙◌}
+use Prim.Native.Nat.{ℕ, ◌-◌}
+use Rattle.check_operands.specs.Groups.{groups as group_table}
+use Rattle.passes.proofs.pass.late.Given as goal
+
+abbrev pub invariant-loop-at : goal.invariant-loop-at
+invariant-loop-at v =
+    Reading v.code v.starts v.at × ((M : Module) (m : Method) (all l : List (Site Ins)) (max : ℕ) (ps : List ℕ) → v.groups ≡ group_table
+    → Held M m v.counts v.row max ps v.fields v.methods → m.code ≡ v.code → Starts all (length v.code) v.starts → Rest v.code v.from l → Searching M m all l v.code v.at)
+
+abbrev pub decreases-loop-at : goal.decreases-loop-at
+decreases-loop-at l =
+    length l.code - l.at
