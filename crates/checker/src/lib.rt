@@ -1,4 +1,6 @@
 // The check: methods by row, in each decoding, then operands and targets, then shapes by rising offset.
+#![tactic(auto)]
+
 ghost use Rattle.std.specs.Prelude.{◌≡◌, List, ℕ};
 ghost use Rattle.model.specs.Tables.{Module};
 ghost use Rattle.model.specs.Check.{check_module};
