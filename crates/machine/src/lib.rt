@@ -1,4 +1,6 @@
 // The loop over the steps, within the budget.
+#![tactic(auto)]
+
 ghost use Rattle.std.specs.Prelude.{◌≡◌, length, ◌+◌, ◌*◌, ◌≤◌, ◌<◌};
 ghost use Rattle.model.specs.Tables.{part_of, Module};
 ghost use Rattle.loaded.specs.Holds.{method_cell, part_offset, part_length, Holds};

@@ -1,4 +1,6 @@
 // The steps of one stay in a frame: as long as no other frame runs, its method's code, its row and its bottom stay the same.
+#![tactic(auto)]
+
 ghost use Rattle.std.specs.Prelude.{◌≡◌, List, ℕ, ◌-◌, ◌≤◌};
 ghost use Rattle.state.specs.View.{Work};
 ghost use Rattle.state.specs.Work.{Tables, EndedW};
