@@ -1,4 +1,6 @@
 // A loaded module run with arguments and a budget: admission, the loop over the steps, and the answer with the whole state.
+#![tactic(auto)]
+
 mod playing; // the loop from the arguments laid, and what is told of its end
 
 ghost use Rattle.std.specs.Prelude.{◌≡◌};

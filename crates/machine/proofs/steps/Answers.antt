@@ -1,0 +1,227 @@
+use Prim.Native.Nat.{ℕ, ◌+◌, ◌-◌, ◌≤◌, ◌<◌}
+use mathlib.Core.Path.{◌≡◌, refl, ap, ◌∙◌}
+use mathlib.Core.List.{List}
+use native.Mathlib.Omega.{arith}
+use lib.ListN.{get_or}
+use lib.Dec.{eqb}
+use Rattle.model.specs.Answer.{pick}
+use Rattle.model.specs.Tables.{Module}
+use Rattle.loaded.specs.Holds.{method_cell, Holds}
+use Rattle.loaded.specs.declared.Loaded.{Loaded}
+use Rattle.state.specs.View.{Regs, Work}
+use Rattle.state.specs.Work.{Tables, value_due, due_of_byte, EndedW, run_w}
+use Rattle.state.specs.Order.{Fine, tables_of, HoldsMade}
+use Rattle.state.specs.Meets.{regs_of, Leaves}
+use Rattle.across_frames.specs.Lent.{regs_at, on_leave}
+use Rattle.crossing.specs.Crossing.{crossing}
+use Rattle.between_steps.specs.Running.{lent_tables, lent_work, lent_loaded}
+use Rattle.between_steps.proofs.Order.{frame_few, row_few, part_inside}
+use Rattle.between_steps.proofs.Going.{Going}
+use Rattle.same_frame.specs.Stays.{Place}
+use Rattle.same_frame.proofs.Stepped.{moves_in, one_less}
+use Rattle.machine.specs.Ending.{ended_by}
+use Rattle.machine.proofs.Made.{makes, ends, begins_so, from_start}
+use Rattle.machine.proofs.Crossed.{ends_with, halts_with, place_of, due_is, asks, goes, stops, less_left, less_going}
+use Rattle.machine.proofs.steps.Goals as goal
+use Rattle.one_step.specs.Told.{Lends}
+use Rattle.across_frames.specs.Lent.{Lends as CrossingLends}
+
+-- the tables that were made, and the loaded module's, are what they lend
+lent : {P : Tables} → Lends P P.class_count P.field_count P.methods P.variables P.fields P.initialisers P.ancestors
+lent = record {
+  same_classes = refl;
+  same_field_count = refl;
+  same_methods = refl;
+  same_variables = refl;
+  same_fields = refl;
+  same_initialisers = refl;
+  same_ancestors = refl;
+}
+
+crossing_lent : {P : Tables} → CrossingLends P P.method_count P.methods P.initialisers P.ancestors P.chosen
+crossing_lent = record { same_count = refl; same_methods = refl; same_initialisers = refl; same_ancestors = refl; same_chosen = refl }
+
+pub variables-requires : goal.variables-requires
+variables-requires c = refl
+
+pub ancestors-requires : goal.ancestors-requires
+ancestors-requires c = refl
+
+pub choices-requires : goal.choices-requires
+choices-requires c = refl
+
+pub loop-how-init : goal.loop-how-init
+loop-how-init c =
+    let A = c.args in
+    let S = c.requires in
+    let L = lent_loaded A.counts A.parents.now A.initialisers.now A.fields.now A.methods.now A.parts.now in
+    let made = makes S.module_is A.code.now L _ _ _ S.fine S.holds c.variables.ensures c.ancestors.ensures (c.choices.ensures S.module_is A.code.now L S.fine S.holds refl refl refl) in
+    (omega arith, (λ _. from_start (begins_so c.variables.new.variables c.ancestors.new.sets c.choices.new.chosen S made), λ n. absurd (n refl)))
+
+pub stay-y-requires : goal.stay-y-requires
+stay-y-requires c =
+    let g = c.loop-how.invariant.1.0 c.loop-how-test.true in (frame_few g.begins, row_few g.begins)
+
+pub body-part-requires : goal.body-part-requires
+body-part-requires c =
+    let b = (c.loop-how.invariant.1.0 c.loop-how-test.true).begins in (row_few b, part_inside b)
+
+pub same_frame-s-requires : goal.same_frame-s-requires
+same_frame-s-requires c =
+    let A = c.args in
+    let P = lent_tables A.counts A.methods.now A.fields.now A.parts.now A.initialisers.now c.variables.new.variables c.ancestors.new.sets c.choices.new.chosen in
+    let l = c.loop-how in
+    let g : Regs = record { fp = l.fp; row = l.row; at = l.at; sp = l.sp; made = l.made } in
+    let p : Place A.code.now P c.stay-y.result c.body-part.result.now g = place_of g c.stay-y.ensures c.body-part.ensures in
+    record {
+      code = A.code.now;
+      tables = P;
+      work = lent_work g l.cells l.kinds l.marks l.classes l.heap l.statics;
+      lends = lent;
+      place = p;
+      begins = (l.invariant.1.0 c.loop-how-test.true).begins;
+    }
+
+-- ---- After a stay
+
+-- a stay that ends the run
+ends_late : (how : ℕ) → 30 < how → how ≡ 0 → ⊥
+ends_late how h e = absurd (omega arith)
+
+pub loop-how-smaller-then-s-eq0 : goal.loop-how-smaller-then-s-eq0
+loop-how-smaller-then-s-eq0 c =
+    let A = c.args in
+    let P = lent_tables A.counts A.methods.now A.fields.now A.parts.now A.initialisers.now c.variables.new.variables c.ancestors.new.sets c.choices.new.chosen in
+    let l = c.loop-how in
+    let g : Regs = record { fp = l.fp; row = l.row; at = l.at; sp = l.sp; made = l.made } in
+    let p : Place A.code.now P c.stay-y.result c.body-part.result.now g = place_of g c.stay-y.ensures c.body-part.ensures in
+    let s = c.same_frame-s in
+    let k = s.ensures.came A.code.now P (lent_work g l.cells l.kinds l.marks l.classes l.heap l.statics) A.budget _ lent p l.invariant.0 (l.invariant.1.0 c.loop-how-test.true) in
+    less_going _ _ _ _ c.loop-how-test.true s.ensures.left_at_most (ends_late _ (k.late c.if-s-eq0.true))
+
+pub loop-how-preserved-then-s-eq0 : goal.loop-how-preserved-then-s-eq0
+loop-how-preserved-then-s-eq0 c =
+    let A = c.args in
+    let P = lent_tables A.counts A.methods.now A.fields.now A.parts.now A.initialisers.now c.variables.new.variables c.ancestors.new.sets c.choices.new.chosen in
+    let l = c.loop-how in
+    let g : Regs = record { fp = l.fp; row = l.row; at = l.at; sp = l.sp; made = l.made } in
+    let p : Place A.code.now P c.stay-y.result c.body-part.result.now g = place_of g c.stay-y.ensures c.body-part.ensures in
+    let s = c.same_frame-s in
+    let k = s.ensures.came A.code.now P (lent_work g l.cells l.kinds l.marks l.classes l.heap l.statics) A.budget _ lent p l.invariant.0 (l.invariant.1.0 c.loop-how-test.true) in
+    let few : s.result.left ≤ A.budget = omega (arith, s.ensures.left_at_most, l.invariant.0) in
+    let z = c.if-s-eq0.true in
+    (few, (λ e. absurd (ends_late _ (k.late z) e), λ n. (halts_with _ _ _ _ (k.late z) ∙ k.stops z, λ e. absurd (omega (arith, k.late z, e)))))
+
+pub cross-r-requires : goal.cross-r-requires
+cross-r-requires c =
+    let A = c.args in
+    let P = lent_tables A.counts A.methods.now A.fields.now A.parts.now A.initialisers.now c.variables.new.variables c.ancestors.new.sets c.choices.new.chosen in
+    let l = c.loop-how in
+    let g : Regs = record { fp = l.fp; row = l.row; at = l.at; sp = l.sp; made = l.made } in
+    let p : Place A.code.now P c.stay-y.result c.body-part.result.now g = place_of g c.stay-y.ensures c.body-part.ensures in
+    let s = c.same_frame-s in
+    let k = s.ensures.came A.code.now P (lent_work g l.cells l.kinds l.marks l.classes l.heap l.statics) A.budget _ lent p l.invariant.0 (l.invariant.1.0 c.loop-how-test.true) in
+    let few : s.result.left ≤ A.budget = omega (arith, s.ensures.left_at_most, l.invariant.0) in
+    let n = c.if-s-eq0.false in
+    let m = k.leaves n in
+    let q = asks _ k (moves_in s.result.at s.result.sp p) n few m.crosses.inside in
+    record { in_frame = q.0; saved = q.1.0; placed = q.1.1.0; call_ranges = q.1.1.1; crosses = m.crosses }
+
+-- ---- After a step that changed the frame
+
+pub overflow_sub-left : goal.overflow_sub-left
+overflow_sub-left c =
+    let A = c.args in
+    let P = lent_tables A.counts A.methods.now A.fields.now A.parts.now A.initialisers.now c.variables.new.variables c.ancestors.new.sets c.choices.new.chosen in
+    let l = c.loop-how in
+    let g : Regs = record { fp = l.fp; row = l.row; at = l.at; sp = l.sp; made = l.made } in
+    let p : Place A.code.now P c.stay-y.result c.body-part.result.now g = place_of g c.stay-y.ensures c.body-part.ensures in
+    let s = c.same_frame-s in
+    let k = s.ensures.came A.code.now P (lent_work g l.cells l.kinds l.marks l.classes l.heap l.statics) A.budget _ lent p l.invariant.0 (l.invariant.1.0 c.loop-how-test.true) in
+    (k.leaves c.if-s-eq0.false).more
+
+pub loop-how-smaller-then-how-eq-ON : goal.loop-how-smaller-then-how-eq-ON
+loop-how-smaller-then-how-eq-ON c =
+    let A = c.args in
+    let P = lent_tables A.counts A.methods.now A.fields.now A.parts.now A.initialisers.now c.variables.new.variables c.ancestors.new.sets c.choices.new.chosen in
+    let l = c.loop-how in
+    let g : Regs = record { fp = l.fp; row = l.row; at = l.at; sp = l.sp; made = l.made } in
+    let p : Place A.code.now P c.stay-y.result c.body-part.result.now g = place_of g c.stay-y.ensures c.body-part.ensures in
+    let s = c.same_frame-s in
+    let k = s.ensures.came A.code.now P (lent_work g l.cells l.kinds l.marks l.classes l.heap l.statics) A.budget _ lent p l.invariant.0 (l.invariant.1.0 c.loop-how-test.true) in
+    let few : s.result.left ≤ A.budget = omega (arith, s.ensures.left_at_most, l.invariant.0) in
+    let n = c.if-s-eq0.false in
+    let m = k.leaves n in
+    less_left l.left (s.result.left - 1) _ c.cross-r.result.how c.loop-how-test.true (omega (arith, m.more, s.ensures.left_at_most))
+
+pub loop-how-preserved-then-how-eq-ON : goal.loop-how-preserved-then-how-eq-ON
+loop-how-preserved-then-how-eq-ON c =
+    let A = c.args in
+    let P = lent_tables A.counts A.methods.now A.fields.now A.parts.now A.initialisers.now c.variables.new.variables c.ancestors.new.sets c.choices.new.chosen in
+    let l = c.loop-how in
+    let g : Regs = record { fp = l.fp; row = l.row; at = l.at; sp = l.sp; made = l.made } in
+    let p : Place A.code.now P c.stay-y.result c.body-part.result.now g = place_of g c.stay-y.ensures c.body-part.ensures in
+    let s = c.same_frame-s in
+    let k = s.ensures.came A.code.now P (lent_work g l.cells l.kinds l.marks l.classes l.heap l.statics) A.budget _ lent p l.invariant.0 (l.invariant.1.0 c.loop-how-test.true) in
+    let few : s.result.left ≤ A.budget = omega (arith, s.ensures.left_at_most, l.invariant.0) in
+    let n = c.if-s-eq0.false in
+    let m = k.leaves n in
+    let h = moves_in s.result.at s.result.sp p in
+    let after = lent_work (record { fp = l.fp; row = l.row; at = s.result.at; sp = s.result.sp; made = l.made }) s.new.cells s.new.kinds s.new.marks l.classes s.new.heap s.new.statics in (
+      omega (arith, few),
+      (
+        λ _. one_less m.more few (omega arith)
+            (goes _ k h n few m.crosses.inside _ _ _ _ (c.cross-r.ensures.leaves P after crossing_lent) c.if-how-eq-ON.true),
+        λ x. absurd (x c.if-how-eq-ON.true),
+      ),
+    )
+
+pub loop-how-smaller : goal.loop-how-smaller
+loop-how-smaller c =
+    let A = c.args in
+    let P = lent_tables A.counts A.methods.now A.fields.now A.parts.now A.initialisers.now c.variables.new.variables c.ancestors.new.sets c.choices.new.chosen in
+    let l = c.loop-how in
+    let g : Regs = record { fp = l.fp; row = l.row; at = l.at; sp = l.sp; made = l.made } in
+    let p : Place A.code.now P c.stay-y.result c.body-part.result.now g = place_of g c.stay-y.ensures c.body-part.ensures in
+    let s = c.same_frame-s in
+    let k = s.ensures.came A.code.now P (lent_work g l.cells l.kinds l.marks l.classes l.heap l.statics) A.budget _ lent p l.invariant.0 (l.invariant.1.0 c.loop-how-test.true) in
+    less_going _ _ _ _ c.loop-how-test.true s.ensures.left_at_most c.if-how-eq-ON.false
+
+pub loop-how-preserved : goal.loop-how-preserved
+loop-how-preserved c =
+    let A = c.args in
+    let P = lent_tables A.counts A.methods.now A.fields.now A.parts.now A.initialisers.now c.variables.new.variables c.ancestors.new.sets c.choices.new.chosen in
+    let l = c.loop-how in
+    let g : Regs = record { fp = l.fp; row = l.row; at = l.at; sp = l.sp; made = l.made } in
+    let p : Place A.code.now P c.stay-y.result c.body-part.result.now g = place_of g c.stay-y.ensures c.body-part.ensures in
+    let s = c.same_frame-s in
+    let k = s.ensures.came A.code.now P (lent_work g l.cells l.kinds l.marks l.classes l.heap l.statics) A.budget _ lent p l.invariant.0 (l.invariant.1.0 c.loop-how-test.true) in
+    let few : s.result.left ≤ A.budget = omega (arith, s.ensures.left_at_most, l.invariant.0) in
+    let n = c.if-s-eq0.false in
+    let m = k.leaves n in
+    let h = moves_in s.result.at s.result.sp p in
+    let after = lent_work (record { fp = l.fp; row = l.row; at = s.result.at; sp = s.result.sp; made = l.made }) s.new.cells s.new.kinds s.new.marks l.classes s.new.heap s.new.statics in (
+      few,
+      (
+        λ e. absurd (c.if-how-eq-ON.false e),
+        λ x. (
+          stops _ k h n few m.crosses.inside _ _ _ _ (c.cross-r.ensures.leaves P after crossing_lent)
+              _ (ap due_of_byte (due_is P after.regs h.stay_is)) x c.cross-r.ensures.never_result,
+          λ _. m.more,
+        ),
+      ),
+    )
+
+pub returns : goal.returns
+unfolding tables_of ended_by ends_with
+returns c =
+    let A = c.args in
+    let L = lent_loaded A.counts A.parents.now A.initialisers.now A.fields.now A.methods.now A.parts.now in
+    let x = c.loop-how.invariant.1.1 c.loop-how-test.false in
+    record {
+      result_range = (c.loop-how.invariant.0, x.1);
+      ends = λ M fin hold good.
+          ends M A.code.now L c.variables.new.variables c.ancestors.new.sets c.choices.new.chosen fin hold
+          (makes M A.code.now L _ _ _ fin hold c.variables.ensures c.ancestors.ensures (c.choices.ensures M A.code.now L fin hold refl refl refl))
+          A.budget _ good c.requires.bounded _ x.0;
+    }
