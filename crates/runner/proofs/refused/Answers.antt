@@ -1,0 +1,8 @@
+use mathlib.Core.Path.{refl}
+use Rattle.state.specs.Layout.{no_state}
+use Rattle.runner.specs.Answers.{refused_by}
+use Rattle.runner.proofs.refused.Goals as goal
+
+pub returns : goal.returns
+unfolding refused_by no_state
+returns c = refl
