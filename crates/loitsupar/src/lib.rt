@@ -1,4 +1,6 @@
 // The public functions over house tables and code; none has a `requires`.
+#![tactic(auto)]
+
 pub mod checking; // the check of a module, which loads it first
 pub mod running; // the run of a module, which loads it first
 pub mod telling; // the shape that the check found before an instruction
