@@ -1,4 +1,6 @@
 // The line of `tell`: the shape that the check found before an instruction, in numbers.
+#![tactic(auto)]
+
 ghost use Rattle.std.specs.Prelude.{◌≡◌, ◌++◌, ◌≤◌, length, take};
 ghost use Rattle.std.proofs.lemmas.List.Edits.{sets};
 ghost use Rattle.model.specs.Operators.{flag as flag_of};
