@@ -1,4 +1,6 @@
 // The answer line of a case of `replay`: the bytes of the case in, the bytes of the line out.
+#![tactic(auto)]
+
 mod answer; // loads, checks and runs, and says what came of it
 mod parts; // the parts of the line
 mod reading; // the parts of a case

@@ -1,5 +1,7 @@
 // What a host program calls, in C's form: numbers and lent slices, a slice as a pointer and a length. Answers go to cells that the host lends;
 // where it lends too few, the call answers 1 and writes nothing.
+#![tactic(auto)]
+
 mod answers; // the cells of a fault and of an answer
 mod parts; // where each part of a state begins
 mod states; // the cells of a state

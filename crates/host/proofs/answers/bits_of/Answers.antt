@@ -1,0 +1,29 @@
+-- `bits_of` meets its contract, value by value.
+use borrow.Author.Rules.{rules}
+use mathlib.Core.Path.{sym, ap}
+use Rattle.host.specs.Hosting.{bits_of}
+use Rattle.host.proofs.answers.bits_of.Goals as goal
+
+pub returns-in-None : goal.returns-in-None
+unfolding bits_of
+returns-in-None c = sym (ap bits_of c.in-None.is)
+
+pub returns-in-Int32 : goal.returns-in-Int32
+unfolding bits_of
+returns-in-Int32 c = sym (ap bits_of c.in-Int32.is)
+
+pub returns-in-Int64 : goal.returns-in-Int64
+unfolding bits_of
+returns-in-Int64 c = sym (ap bits_of c.in-Int64.is)
+
+pub returns-in-Real : goal.returns-in-Real
+unfolding bits_of
+returns-in-Real c = sym (ap bits_of c.in-Real.is)
+
+pub returns-in-Null : goal.returns-in-Null
+unfolding bits_of
+returns-in-Null c = sym (ap bits_of c.in-Null.is)
+
+pub returns-in-Object : goal.returns-in-Object
+unfolding bits_of
+returns-in-Object c = sym (ap bits_of c.in-Object.is)

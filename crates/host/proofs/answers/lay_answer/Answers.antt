@@ -1,0 +1,19 @@
+-- `lay_answer` meets its contract, cell by cell.
+use borrow.Author.Rules.{rules}
+use native.Mathlib.Omega.{arith}
+use lib.ListN.{length-set}
+use Rattle.host.specs.Hosting.{fault_cells, told_cells}
+use Rattle.host.proofs.Laying.{six_laid}
+use Rattle.host.proofs.answers.lay_answer.Goals as goal
+
+pub bounds-out-4 : goal.bounds-out-4
+bounds-out-4 c =
+    let laid = c in
+    omega (arith, length-set laid.lay_fault.new.out 3 laid.args.steps)
+
+pub returns : goal.returns
+unfolding told_cells fault_cells
+returns c =
+    let laid = c in
+    let start = laid in
+    rw (laid.lay_fault.ensures, c.sort_of.ensures, c.bits_of.ensures) (six_laid start.args.out.now _ _ _ _ _ _ start.requires)

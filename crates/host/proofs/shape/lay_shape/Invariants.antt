@@ -1,0 +1,11 @@
+use borrow.Author.Rules.{rules}
+use Prim.Native.Nat.{◌-◌}
+use Rattle.host.specs.Hosting.{shape_cell, shape_cells}
+use Rattle.host.proofs.Laying.{Laid, none_laid, one_more, all_laid}
+use Rattle.host.proofs.shape.lay_shape.Given as goal
+
+abbrev pub invariant-loop-i : goal.invariant-loop-i
+invariant-loop-i l = Laid (shape_cell (record { starts = l.starts; depth = l.depth; types = l.types })) 34 l.initial.out l.out l.i
+
+abbrev pub decreases-loop-i : goal.decreases-loop-i
+decreases-loop-i l = 34 - l.i
