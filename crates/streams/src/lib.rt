@@ -1,7 +1,7 @@
 // Input as bytes, from any reader.
 #![tactic(auto)]
 
-ghost use Rattle.std.specs.Prelude.{◌<◌, ◌≤◌, length, take, IfOk};
+ghost use Rattle.std.specs.Prelude.{◌≡◌, ◌<◌, ◌≤◌, length, take, IfOk, IfSome};
 ghost use Rattle.std.specs.Io.KnownBytes.{Consumes, IsAtEnd};
 
 use std::io;
@@ -11,6 +11,7 @@ use std::io::Read;
 pub fn fill<R: Read>(from: &mut R, to: &mut [u8]) -> io::Result<usize>
     ensures within { IfOk result (λ n. n ≤ length to.new) }
     ensures bytes { IfOk result (λ n. Consumes (R.remaining from.old) (R.remaining from.new) (take n to.new)) }
+    ensures first { IfOk result (λ n. IfSome (R.remaining from.old) (λ input. take n to.new ≡ take (length to.new) input)) }
     ensures ends { IfOk result (λ n. n < length to.new → IsAtEnd (R.remaining from.new)) }
 {
     let mut have = 0;

@@ -1,0 +1,2 @@
+-- What is proved once and cited.
+pub mod Written
