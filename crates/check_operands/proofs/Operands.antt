@@ -11,8 +11,8 @@ use lib.ListN.{length, get_or}
 use Rattle.model.specs.Answer.{Answer, ok, ◌>>=◌, need, guard, pick, only_if, map_option, is_none, at, row}
 use Rattle.model.specs.Tables.{Ty, int32, int64, F, null, class, byte_of, Sort, static, instance, virtual, constructor, initialiser, is_sort, sort_byte, Field}
 use Rattle.model.specs.Tables.{Method, Module, arguments, this_of, due, as_list}
-use Rattle.model.specs.Code.{Ins, Act, binary, number, add, whole, Whole, rem, shift, shl, compare, eq, lt, call, callvirt, newobj, castclass, ldfld, stfld}
-use Rattle.model.specs.Code.{ldsfld, stsfld, and_then, row_of, class_of, field_of, method_of, callable, dispatched, constructs, operands}
+use Rattle.model.specs.Code.{Ins, Act, binary, number, add, whole, Whole, rem, shift, shl, compare, eq, lt, call, callvirt, newobj, castclass}
+use Rattle.model.specs.Code.{and_then, row_of, class_of, field_of, method_of, callable, dispatched, constructs, operands}
 use Rattle.model.specs.State.{wrong_type, pop2, check_number}
 use Rattle.model.specs.Operators.{flag, Kind, k32, k64, k_f, reference, kind, kind_number, same, Meaning, meaning, number_of, integers_of, whole_of, shifted}
 use Rattle.model.specs.Operators.{relation_of, relates_ref, comparison, binary_of}

@@ -5,7 +5,7 @@ use mathlib.Core.Bool.{Bool}
 use mathlib.Core.Option.{Option, none, some}
 use mathlib.Core.List.{List, [], ◌∷◌}
 use native.Mathlib.Omega.{arith}
-use lib.Dec.{T, leb→le}
+use lib.Dec.{leb→le}
 use lib.ListN.{length, get_or, set, replicate, length-append, length-drop}
 use Rattle.model.specs.Answer.{Answer, ok, ◌>>=◌, or_else}
 use Rattle.model.specs.Tables.{Ty, class, eq_tys, Method, Module, due}

@@ -17,7 +17,7 @@ use Rattle.loaded.specs.Holds.{method_cell, part_length, Holds}
 use Rattle.loaded.specs.declared.Loaded.{Loaded}
 use Rattle.state.specs.View.{Work, at_of, method_of}
 use Rattle.state.specs.Order.{Fine, tables_of, HoldsMade, Good, due_of, Saved, Bounded, Ranges}
-use Rattle.state.specs.Work.{Tables, Went, runs, over, waits, sp_of, goto, put, few, push_w, binary_w, unary_w, test_w, when_w, jump_w, branch_w, pop_w, dup_w, load_w, store_w, ldarg_w, starg_w, ldloc_w, stloc_w, is_token, row_of_token, cast_w, starting_w, ldfld_row, stfld_row, ldsfld_row, stsfld_row, copy_of, fours, entered, room_above, start_w, taking_w, invoke_w, call_row, chosen_row, callvirt_row, made_w, newobj_row, is_method, value_due, left, return_w, ret_w, plain_w, act_w, stay_of, code_of, acts_w, settle, step_w}
+use Rattle.state.specs.Work.{Tables, Went, runs, over, waits, sp_of, goto, put, push_w, binary_w, unary_w, test_w, when_w, jump_w, branch_w, pop_w, dup_w, load_w, store_w, ldarg_w, starg_w, ldloc_w, stloc_w, is_token, row_of_token, cast_w, starting_w, ldfld_row, stfld_row, ldsfld_row, stsfld_row, copy_of, fours, entered, room_above, start_w, taking_w, invoke_w, call_row, chosen_row, callvirt_row, made_w, newobj_row, is_method, value_due, left, return_w, ret_w, plain_w, act_w, stay_of, code_of, acts_w, settle, step_w}
 use Rattle.faithful.proofs.Lists.{le_or_lt, is_or_not, and_l, and_r, copy_out}
 use Rattle.faithful.proofs.Rows.{token_row}
 use Rattle.faithful.proofs.Frames.{fours_most, left_room}

@@ -9,7 +9,7 @@ use native.Mathlib.Omega.{arith}
 use lib.ListN.{length}
 use lib.Dec.{eqb}
 use borrow.Author.Tests.{ne_eqb, eqb-false}
-use Rattle.model.specs.Answer.{Answer, ok, ◌>>=◌, guard, need, pick, at, row}
+use Rattle.model.specs.Answer.{Answer, ok, ◌>>=◌, guard, need, pick, row}
 use Rattle.model.specs.Tables.{Ty, byte_of, sort_byte, is_sort, no_method, method_at, arguments, as_list, due}
 use Rattle.model.specs.Loading.{within}
 use Rattle.model.specs.Code.{Act, method_of, callable}

@@ -13,7 +13,7 @@ use Rattle.model.specs.Answer.{ok, row}
 use Rattle.model.specs.Tables.{Ty, int32, int64, F, null, class, static, virtual, constructor, initialiser, sort_byte, is_sort, Sort, Method, Module, method_at, as_list, due, parent_of, field_types}
 use Rattle.model.specs.Loading.{load}
 use Rattle.model.proofs.Hoare.{All, anil, acons}
-use Rattle.model.proofs.Loaded.{Declared, Overrides, Loaded, loaded}
+use Rattle.model.proofs.Loaded.{Declared, Loaded, loaded}
 use Rattle.state.specs.View.{types_of}
 use Rattle.state.specs.Order.{Named, AllNamed, FineMethod, Fine}
 use Rattle.state.specs.Order as Order

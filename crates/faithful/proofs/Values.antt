@@ -11,7 +11,7 @@ use lib.ListN.{length, get_or, set}
 use lib.Dec.{leb, ltb, eqb}
 use borrow.Author.Tests.{le-leb, lt-ltb, le-ltb, ne_eqb}
 use Rattle.model.specs.Answer.{Answer, ok, ◌>>=◌, guard, need, pick, only_if, map_option, at}
-use Rattle.model.specs.Tables.{Ty, int32, byte_of, arguments}
+use Rattle.model.specs.Tables.{Ty, byte_of, arguments}
 use Rattle.model.specs.Code.{Binary, Unary, Relation, Jump, always, iftrue, iffalse, when, Act, and_then}
 use Rattle.model.specs.Operators.{same, kind_number, testable}
 use Rattle.model.specs.State.{Value, vnull, zero_of, bits_in, kind_of, fits_value, fit_all, pop1, stuck_number}

@@ -7,7 +7,7 @@ use Rattle.std.specs.Float.Ieee as Ieee
 use Rattle.std.specs.Float.{binary64}
 use Rattle.std.specs.Int.{Width, w32, w64}
 use mir.Val.{bits, hbits, to_z, of_z}
-use Rattle.model.specs.Answer.{Answer, ok, ◌>>=◌, ◌>>◌, guard, only_if, map_option}
+use Rattle.model.specs.Answer.{Answer, ok, ◌>>◌, guard, only_if, map_option}
 use Rattle.model.specs.Tables.{Ty, int32, int64, F, null, class, eq_ty, descends}
 use Rattle.model.specs.Code.{Number, add, sub, mul, div, Whole, rem, div_un, rem_un, and, or, xor, add_ovf, mul_ovf, sub_ovf, Shift, shl, shr, shr_un}
 use Rattle.model.specs.Code.{Relation, eq, ne, lt, le, gt, ge, lt_un, le_un, gt_un, ge_un, Binary, number, whole, shift, compare, Unary, neg, not_bits}

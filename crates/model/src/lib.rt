@@ -1,1 +1,3 @@
+#![tactic(auto)]
+
 // The definitions of document 01 stand in specs/; they hold no code.

@@ -14,7 +14,7 @@ use Rattle.model.specs.Tables.{int32, Sort, Field, Method, Module, arguments}
 use Rattle.model.specs.Code.{Plain, nop, pop, dup, ret, ldc, binary, unary, Binary, number, Number, add, whole, rem, shift, shl, compare, Relation, eq, ne}
 use Rattle.model.specs.Code.{lt, le, gt, ge, lt_un, le_un, gt_un, ge_un, Jump, always, iftrue, iffalse, when, Ins, plain, ldarg, starg, ldloc, stloc, jump}
 use Rattle.model.specs.Code.{call, callvirt, newobj, castclass, isinst, ldfld, stfld, ldsfld, stsfld, Act, and_then, row_of, class_of, field_of, method_of}
-use Rattle.model.specs.Code.{callable, dispatched, constructs, operands, Form, far, Kept, ◌is◌, op, un, const, i4_s, i4, i8, r8, branches, loads, operators}
+use Rattle.model.specs.Code.{callable, dispatched, constructs, operands, Form, Kept, ◌is◌, op, un, const, i4_s, i4, i8, r8, branches, loads, operators}
 use Rattle.model.specs.Code.{objects, instructions, after_fE, form_of}
 use Rattle.model.specs.Operators.{flag, Meaning, whole_of, shifted, Kind, k32, k64, k_f, reference, kind, same, number_of, integers_of, meaning, binary_of}
 use Rattle.model.specs.Operators.{comparison, relation_of, relates_ref}

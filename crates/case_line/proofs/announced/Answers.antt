@@ -1,5 +1,4 @@
 -- `announced` meets its contract.
-use borrow.Author.Rules.{rules}
 use mathlib.Core.Path.{ap}
 use Rattle.case_line.specs.Places.{announced_by}
 use Rattle.case_line.specs.declared.reading.Places.{Places}

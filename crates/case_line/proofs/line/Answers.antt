@@ -1,5 +1,4 @@
 -- `line` meets its contract.
-use borrow.Author.Rules.{rules}
 use mathlib.Core.Path.{sym, ap, ◌∙◌}
 use native.Mathlib.Omega.{arith}
 use lib.Seq.{length-take-le}

@@ -1,18 +1,13 @@
 -- `check` meets its contract: what is answered of the methods from a row on is answered of all.
-use Rattle.checker.proofs.Whole.{Checking, checking_start, checking_next, checking_fault, checking_end, the_row, held, held_code, ready_first}
+use Rattle.checker.proofs.Whole.{checking_start, checking_next, checking_fault, checking_end, the_row, held, held_code, ready_first}
 use Rattle.checker.proofs.Whole.{ready_next}
 use Rattle.checker.specs.Answers.{lent}
-use Rattle.checker.specs.Bounded.{Bounded}
-use Rattle.passes.specs.Fused.{Ready}
-use Rattle.loaded.specs.declared.Loaded.{Loaded}
-use Rattle.loaded.specs.Holds.{Holds}
-use Rattle.model.specs.Tables.{Module}
 use lib.ListN.{length, length-replicate}
 use borrow.Author.Rules.{rules}
 use native.Mathlib.Omega.{arith}
 use mathlib.Core.List.{List}
-use mathlib.Core.Path.{◌≡◌, sym, ◌∙◌, subst}
-use Prim.Native.Nat.{ℕ, ◌-◌, ◌≤◌, ◌<◌}
+use mathlib.Core.Path.{sym, ◌∙◌, subst}
+use Prim.Native.Nat.{ℕ, ◌≤◌, ◌<◌}
 use Rattle.checker.proofs.check.Goals as goal
 
 pub loop-row-init : goal.loop-row-init

@@ -31,7 +31,11 @@ pub returns : goal.returns
 returns c = let s = c in
     let r = c.leave-r in
     let two : r.result.how ≡ 2 = c.if-r-ne-START.false in
-    record { landed = c.start-2.ensures.landed; never_result = no_wait _ _ _ (c.start-2.ensures.leaves nothing none); leaves = λ P w l.
-            let m = r.ensures.leaves P w l in
-            comes_before P _ _ _ _ _ l.same_methods c.if-next-eq-START.false (says_wait m two) _ (ap (λ (x : Work). with_regs x (regs_at s.args.y s.args.row s.args.at s.args.sp s.args.made)) (m.kept (λ z. omega arith)))
-            (c.start-2.ensures.leaves (on_leave w w.regs r.new.cells r.new.kinds r.new.marks r.new.classes) _) }
+    record {
+      landed = c.start-2.ensures.landed;
+      never_result = no_wait _ _ _ (c.start-2.ensures.leaves nothing none);
+      leaves = λ P w l.
+          let m = r.ensures.leaves P w l in
+          comes_before P _ _ _ _ _ l.same_methods c.if-next-eq-START.false (says_wait m two) _ (ap (λ (x : Work). with_regs x (regs_at s.args.y s.args.row s.args.at s.args.sp s.args.made)) (m.kept (λ z. omega arith)))
+          (c.start-2.ensures.leaves (on_leave w w.regs r.new.cells r.new.kinds r.new.marks r.new.classes) _);
+    }

@@ -1,5 +1,4 @@
 -- `loitsupar_check` meets its contract: the cells of the check's fault, or nothing.
-use borrow.Author.Rules.{rules}
 use mathlib.Core.Path.{ap, ◌∙◌}
 use Rattle.loaded.specs.declared.Fault.{Fault}
 use Rattle.host.specs.Hosting.{over, fault_cells}

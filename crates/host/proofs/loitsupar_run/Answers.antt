@@ -1,5 +1,4 @@
 -- `loitsupar_run` meets its contract: the cells of the run's answer and state, or nothing.
-use borrow.Author.Rules.{rules}
 use mathlib.Core.Path.{ap, ◌∙◌}
 use Rattle.runner.specs.declared.Ended.{Ended}
 use Rattle.host.specs.Hosting.{over, answer_cells, state_cells}

@@ -1,5 +1,4 @@
 -- `loitsupar_tell` meets its contract: the cells of the fault and of the shape found, or nothing.
-use borrow.Author.Rules.{rules}
 use mathlib.Core.Path.{ap, ◌∙◌}
 use Rattle.loitsupar.specs.declared.telling.Told.{Told}
 use Rattle.host.specs.Hosting.{over, fault_cells, shape_cells}

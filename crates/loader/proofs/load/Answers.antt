@@ -1,5 +1,4 @@
 -- `loader::load` meets its contract.
-use borrow.Author.Rules.{rules}
 use mathlib.Core.Path.{refl}
 use Rattle.loader.proofs.Ends.{answers_refused, answers_loaded}
 use Rattle.loader.proofs.load.Goals as goal

@@ -1,6 +1,5 @@
 -- `loader::load_into` meets its contract.
 use native.Mathlib.Omega.{arith}
-use borrow.Author.Rules.{rules}
 use mathlib.Core.Path.{refl, ap, ◌∙◌}
 use mathlib.Core.Bool.{Bool, ◌&&◌}
 use lib.ListN.{length, replicate}

@@ -1,22 +1,11 @@
-use Prim.Native.Nat.{ℕ, ◌+◌, ◌-◌, ◌≤◌, ◌<◌}
+use Prim.Native.Nat.{ℕ, ◌-◌, ◌≤◌, ◌<◌}
 use mathlib.Core.Path.{◌≡◌, refl, ap, ◌∙◌}
-use mathlib.Core.List.{List}
 use native.Mathlib.Omega.{arith}
-use lib.ListN.{get_or}
-use lib.Dec.{eqb}
-use Rattle.model.specs.Answer.{pick}
-use Rattle.model.specs.Tables.{Module}
-use Rattle.loaded.specs.Holds.{method_cell, Holds}
-use Rattle.loaded.specs.declared.Loaded.{Loaded}
-use Rattle.state.specs.View.{Regs, Work}
-use Rattle.state.specs.Work.{Tables, value_due, due_of_byte, EndedW, run_w}
-use Rattle.state.specs.Order.{Fine, tables_of, HoldsMade}
-use Rattle.state.specs.Meets.{regs_of, Leaves}
-use Rattle.across_frames.specs.Lent.{regs_at, on_leave}
-use Rattle.crossing.specs.Crossing.{crossing}
+use Rattle.state.specs.View.{Regs}
+use Rattle.state.specs.Work.{Tables, due_of_byte}
+use Rattle.state.specs.Order.{tables_of}
 use Rattle.between_steps.specs.Running.{lent_tables, lent_work, lent_loaded}
 use Rattle.between_steps.proofs.Order.{frame_few, row_few, part_inside}
-use Rattle.between_steps.proofs.Going.{Going}
 use Rattle.same_frame.specs.Stays.{Place}
 use Rattle.same_frame.proofs.Stepped.{moves_in, one_less}
 use Rattle.machine.specs.Ending.{ended_by}

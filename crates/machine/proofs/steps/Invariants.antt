@@ -1,27 +1,12 @@
-use Prim.Native.Nat.{ℕ, ◌+◌, ◌-◌, ◌≤◌, ◌<◌}
-use mathlib.Core.Path.{◌≡◌, refl, ap, ◌∙◌}
-use mathlib.Core.List.{List}
-use native.Mathlib.Omega.{arith}
-use lib.ListN.{get_or}
+use Prim.Native.Nat.{◌+◌, ◌-◌, ◌≤◌, ◌<◌}
+use mathlib.Core.Path.{◌≡◌}
 use lib.Dec.{eqb}
 use Rattle.model.specs.Answer.{pick}
-use Rattle.model.specs.Tables.{Module}
-use Rattle.loaded.specs.Holds.{method_cell, Holds}
-use Rattle.loaded.specs.declared.Loaded.{Loaded}
-use Rattle.state.specs.View.{Regs, Work}
-use Rattle.state.specs.Work.{Tables, value_due, due_of_byte, EndedW, run_w}
-use Rattle.state.specs.Order.{Fine, tables_of, HoldsMade}
-use Rattle.state.specs.Meets.{regs_of, Leaves}
-use Rattle.across_frames.specs.Lent.{regs_at, on_leave}
-use Rattle.crossing.specs.Crossing.{crossing}
-use Rattle.between_steps.specs.Running.{lent_tables, lent_work, lent_loaded}
-use Rattle.between_steps.proofs.Order.{frame_few, row_few, part_inside}
+use Rattle.loaded.specs.Holds.{method_cell}
+use Rattle.state.specs.Work.{value_due, due_of_byte, run_w}
+use Rattle.between_steps.specs.Running.{lent_tables, lent_work}
 use Rattle.between_steps.proofs.Going.{Going}
-use Rattle.same_frame.specs.Stays.{Place, Came}
-use Rattle.same_frame.proofs.Stepped.{moves_in, one_less}
-use Rattle.machine.specs.Ending.{ended_by}
-use Rattle.machine.proofs.Made.{makes, ends, begins_so, from_start}
-use Rattle.machine.proofs.Crossed.{ends_with, halts_with, place_of, due_is, asks, goes, stops, less_left, less_going}
+use Rattle.machine.proofs.Crossed.{ends_with}
 use Rattle.machine.proofs.steps.Given as goal
 
 abbrev pub invariant-loop-how : goal.invariant-loop-how

@@ -1,10 +1,6 @@
-use Prim.Native.Nat.{ℕ, ◌-◌, ◌≤◌, ◌<◌}
 use mathlib.Core.Path.{◌≡◌}
-use mathlib.Core.List.{List}
 use native.Mathlib.Omega.{arith}
-use lib.ListN.{length, length-set}
-use Rattle.ancestor.specs.Parents.{Parents}
-use Rattle.prepare.specs.Sets.{Sets}
+use lib.ListN.{length-set}
 use Rattle.prepare.proofs.Turns.{zeros, zeros_long}
 use Rattle.prepare.proofs.Asking.{sets_first, sets_more, sets_hold}
 use Rattle.prepare.proofs.ancestors.Goals as goal

@@ -1,12 +1,9 @@
 use Prim.Native.Nat.{ℕ, ◌-◌, ◌≤◌, ◌<◌}
 use mathlib.Core.Path.{◌≡◌}
 use mathlib.Core.List.{List}
-use native.Mathlib.Omega.{arith}
-use lib.ListN.{length, length-set}
+use lib.ListN.{length}
 use Rattle.ancestor.specs.Parents.{Parents}
 use Rattle.prepare.specs.Sets.{Sets}
-use Rattle.prepare.proofs.Turns.{zeros, zeros_long}
-use Rattle.prepare.proofs.Asking.{sets_first, sets_more, sets_hold}
 use Rattle.prepare.proofs.ancestors.Given as goal
 
 abbrev pub invariant-loop-c : goal.invariant-loop-c

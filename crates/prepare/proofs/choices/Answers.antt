@@ -1,5 +1,4 @@
 use Rattle.prepare.proofs.Holding.{chosen_holds}
-use borrow.Author.Rules.{rules}
 use Rattle.prepare.proofs.choices.Goals as goal
 
 pub returns : goal.returns

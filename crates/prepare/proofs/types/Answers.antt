@@ -1,5 +1,4 @@
 use Rattle.prepare.proofs.Holding.{types_hold}
-use borrow.Author.Rules.{rules}
 use Rattle.prepare.proofs.types.Goals as goal
 
 pub returns : goal.returns

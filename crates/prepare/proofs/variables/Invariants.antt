@@ -1,10 +1,8 @@
 use Prim.Native.Nat.{ℕ, ◌+◌, ◌-◌, ◌*◌, ◌≤◌, ◌<◌}
-use mathlib.Core.Path.{◌≡◌, ◌∙◌}
-use native.Mathlib.Omega.{arith}
+use mathlib.Core.Path.{◌≡◌}
 use lib.ListN.{length, get_or}
 use Rattle.loaded.specs.Holds.{method_cell}
 use Rattle.state.specs.Order.{kind_or_none}
-use Rattle.prepare.proofs.Storing.{rows_more}
 use Rattle.prepare.proofs.variables.Given as goal
 
 abbrev pub invariant-loop-row : goal.invariant-loop-row

@@ -1,4 +1,3 @@
-use borrow.Author.Rules.{rules}
 use mathlib.Core.Path.{refl}
 use Rattle.begin_end.specs.Admission.{Words}
 use Rattle.runner.specs.Playing.{laid, Plays}

@@ -1,14 +1,8 @@
-use Prim.Native.Nat.{ℕ, ◌-◌, ◌≤◌}
 use mathlib.Core.Path.{refl}
-use mathlib.Core.List.{List}
 use native.Mathlib.Omega.{arith}
-use Rattle.state.specs.View.{Work}
-use Rattle.state.specs.Work.{Tables, EndedW}
 use Rattle.fields.specs.Members.{on_member}
-use Rattle.one_step.specs.Told.{Lends}
 use Rattle.between_steps.specs.Running.{Begins}
-use Rattle.between_steps.proofs.Going.{Going, enters}
-use Rattle.same_frame.specs.Stays.{Place}
+use Rattle.between_steps.proofs.Going.{enters}
 use Rattle.same_frame.proofs.Stepped.{more_left, some_left, one_less, moves_in, asks, past, used_up, goes_to, ends_here}
 use Rattle.same_frame.proofs.same_frame.Goals as goal
 
@@ -40,10 +34,13 @@ stopped-requires c = tt
 pub returns-then-g-ne-ON : goal.returns-then-g-ne-ON
 returns-then-g-ne-ON c = let t = c in
     let l = t in
-    rw c.stopped.ensures (record { left_at_most = l.loop-left.invariant.0; came = λ code P w most whole e p h g. ends_here (l.loop-left.invariant.1 code P w most whole e p h g) (moves_in _ _ p)
+    rw c.stopped.ensures (record {
+      left_at_most = l.loop-left.invariant.0;
+      came = λ code P w most whole e p h g. ends_here (l.loop-left.invariant.1 code P w most whole e p h g) (moves_in _ _ p)
           (more_left t.loop-left-test.true l.loop-left.invariant.0 h)
           t.if-part-o.false _ _ (t.step-t.ensures.tells P w e) l.loop-left.left
-          (some_left t.loop-left-test.true) refl _ c.merged-g.ensures c.if-g-ne-ON.true })
+          (some_left t.loop-left-test.true) refl _ c.merged-g.ensures c.if-g-ne-ON.true;
+    })
 
 pub overflow_sub-left : goal.overflow_sub-left
 overflow_sub-left c =

@@ -1,15 +1,11 @@
 use Prim.Native.Nat.{ℕ, ◌-◌, ◌≤◌}
-use mathlib.Core.Path.{refl}
 use mathlib.Core.List.{List}
-use native.Mathlib.Omega.{arith}
 use Rattle.state.specs.View.{Work}
 use Rattle.state.specs.Work.{Tables, EndedW}
 use Rattle.fields.specs.Members.{on_member}
 use Rattle.one_step.specs.Told.{Lends}
-use Rattle.between_steps.specs.Running.{Begins}
-use Rattle.between_steps.proofs.Going.{Going, enters}
+use Rattle.between_steps.proofs.Going.{Going}
 use Rattle.same_frame.specs.Stays.{Place}
-use Rattle.same_frame.proofs.Stepped.{more_left, some_left, one_less, moves_in, asks, past, used_up, goes_to, ends_here}
 use Rattle.same_frame.proofs.same_frame.Given as goal
 
 abbrev pub invariant-loop-left : goal.invariant-loop-left

@@ -1,9 +1,6 @@
 -- `spaced` meets its contract. What is appended so far is for the first i numbers.
 use borrow.Author.Rules.{rules}
-use mathlib.Core.Path.{◌≡◌, refl, ◌∙◌}
-use Prim.Native.Nat.{◌-◌, ◌≤◌}
-use lib.ListN.{length, take}
-use Rattle.line.specs.Append.{Appended}
+use mathlib.Core.Path.{refl, ◌∙◌}
 use Rattle.line.proofs.Appending.{nothing}
 use Rattle.tell_line.specs.Shapes.{spaced}
 use Rattle.tell_line.proofs.Telling.{further, through}

@@ -1,11 +1,8 @@
-use borrow.Author.Rules.{rules}
-use mathlib.Core.Path.{◌≡◌, refl, ◌∙◌}
+use mathlib.Core.Path.{◌≡◌}
 use Prim.Native.Nat.{◌-◌, ◌≤◌}
 use lib.ListN.{length, take}
 use Rattle.line.specs.Append.{Appended}
-use Rattle.line.proofs.Appending.{nothing}
 use Rattle.tell_line.specs.Shapes.{spaced}
-use Rattle.tell_line.proofs.Telling.{further, through}
 use Rattle.tell_line.proofs.spaced.Given as goal
 
 abbrev pub invariant-loop-i : goal.invariant-loop-i

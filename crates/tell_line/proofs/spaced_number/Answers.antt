@@ -1,5 +1,4 @@
 -- `spaced_number` meets its contract: the space, then the digits.
-use borrow.Author.Rules.{rules}
 use Rattle.model.specs.Turn.{space}
 use Rattle.line.proofs.Appending.{then}
 use Rattle.tell_line.proofs.spaced_number.Goals as goal

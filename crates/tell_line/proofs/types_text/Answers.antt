@@ -1,5 +1,4 @@
 -- `types_text` meets its contract.
-use borrow.Author.Rules.{rules}
 use mathlib.Core.Path.{ap}
 use Rattle.model.specs.Tables.{part_of}
 use Rattle.line.proofs.Appending.{same}

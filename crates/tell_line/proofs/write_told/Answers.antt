@@ -1,5 +1,4 @@
 -- `write_told` meets its contract: seven appends, one after the other.
-use borrow.Author.Rules.{rules}
 use Rattle.line.proofs.Appending.{same, then}
 use Rattle.tell_line.proofs.Telling.{in_order}
 use Rattle.tell_line.proofs.write_told.Goals as goal

@@ -1,5 +1,4 @@
 -- `played` meets its contract: `l` is the place after loading, `e` where it has no fault, `k` after the check.
-use borrow.Author.Rules.{rules}
 use mathlib.Core.Path.{refl}
 use Rattle.loitsupar.proofs.Answered.{stands, ready}
 use Rattle.turn_line.proofs.Turned.{as_line, refusal_line, fault_line_lem, run_line}

@@ -1,5 +1,4 @@
 -- `turn` meets its contract: the line of a refusal, or of the parts.
-use borrow.Author.Rules.{rules}
 use Rattle.turn_line.proofs.Turned.{apart, cut_line, long_line, parts_line}
 use Rattle.turn_line.proofs.turn.Goals as goal
 

@@ -1,11 +1,5 @@
-use borrow.Author.Rules.{rules}
-use Prim.Native.Nat.{◌+◌, ◌-◌, ◌*◌, ◌≤◌}
-use mathlib.Core.Path.{◌≡◌, sym, ◌∙◌}
+use mathlib.Core.Path.{sym, ◌∙◌}
 use native.Mathlib.Omega.{arith}
-use borrow.Author.Tests.{not-true, not-false}
-use Rattle.state.specs.Work.{fit_all_w}
-use Rattle.state.specs.View.{Work}
-use Rattle.across_frames.specs.Lent.{on_leave}
 use Rattle.across_frames.proofs.Taken.{fit_first, fit_fails, fit_goes, fit_done}
 use Rattle.across_frames.proofs.arguments.fit_all.Goals as goal
 

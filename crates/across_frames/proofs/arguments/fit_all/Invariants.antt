@@ -1,12 +1,8 @@
-use borrow.Author.Rules.{rules}
 use Prim.Native.Nat.{◌+◌, ◌-◌, ◌*◌, ◌≤◌}
-use mathlib.Core.Path.{◌≡◌, sym, ◌∙◌}
-use native.Mathlib.Omega.{arith}
-use borrow.Author.Tests.{not-true, not-false}
+use mathlib.Core.Path.{◌≡◌}
 use Rattle.state.specs.Work.{fit_all_w}
 use Rattle.state.specs.View.{Work}
 use Rattle.across_frames.specs.Lent.{on_leave}
-use Rattle.across_frames.proofs.Taken.{fit_first, fit_fails, fit_goes, fit_done}
 use Rattle.across_frames.proofs.arguments.fit_all.Given as goal
 
 abbrev pub invariant-loop-s : goal.invariant-loop-s

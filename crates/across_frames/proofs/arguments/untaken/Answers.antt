@@ -1,7 +1,5 @@
-use borrow.Author.Rules.{rules}
 use mathlib.Core.Path.{refl, sym, ◌∙◌}
 use native.Mathlib.Omega.{arith}
-use borrow.Author.Tests.{not-true, not-false}
 use Rattle.model.specs.Answer.{pick}
 use Rattle.across_frames.proofs.Taken.{taking_few, taking_unfit, taking_full, taking_goes}
 use Rattle.across_frames.proofs.arguments.untaken.Goals as goal

@@ -1,9 +1,6 @@
 -- the work at entry
-use borrow.Author.Rules.{rules}
 use mathlib.Core.Path.{refl, ◌∙◌}
 use native.Mathlib.Omega.{arith}
-use borrow.Author.Tests.{not-true, not-false}
-use Rattle.state.specs.View.{Work}
 use Rattle.across_frames.specs.Lent.{regs_at, on_leave}
 use Rattle.across_frames.proofs.Called.{named_none, named_takes, refused, accepted}
 use Rattle.across_frames.proofs.Moving.{landed, ends, instead, through, aside}

@@ -1,4 +1,3 @@
-use borrow.Author.Tests.{not-true, not-false}
 use Rattle.across_frames.proofs.Called.{sort_initialiser, sort_call, sort_static, sort_instance}
 use Rattle.across_frames.proofs.calls.callable.Goals as goal
 

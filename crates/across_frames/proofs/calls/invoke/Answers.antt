@@ -1,10 +1,8 @@
 -- the work at entry
-use borrow.Author.Rules.{rules}
 use mathlib.Core.Path.{refl, ◌∙◌}
 use native.Mathlib.Omega.{arith}
 use lib.ListN.{set}
 use Rattle.state.specs.Work.{with_marks}
-use Rattle.state.specs.View.{Work}
 use Rattle.across_frames.specs.Lent.{regs_at, on_leave}
 use Rattle.across_frames.proofs.Called.{invoke_starts, invoke_full, invoke_goes}
 use Rattle.across_frames.proofs.Moving.{landed, ends, first_comes, goes, through, aside}

@@ -1,7 +1,5 @@
-use borrow.Author.Rules.{rules}
 use Prim.Native.Nat.{◌+◌, ◌-◌, ◌*◌, ◌%◌}
 use native.Mathlib.Omega.{arith}
-use borrow.Author.Tests.{not-true, not-false}
 use Rattle.across_frames.proofs.Called.{taken_named, taken_null, taken_bare, taken_none, taken_over}
 use Rattle.across_frames.proofs.calls.taken_row.Goals as goal
 

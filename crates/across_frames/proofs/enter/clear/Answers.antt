@@ -1,4 +1,3 @@
-use borrow.Author.Rules.{rules}
 use Rattle.state.specs.Work.{copy_of}
 use Rattle.across_frames.proofs.Copied.{fours_none, cleared_one, cleared_two, cleared_four}
 use Rattle.across_frames.proofs.enter.clear.Goals as goal

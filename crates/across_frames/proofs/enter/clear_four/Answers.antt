@@ -1,4 +1,3 @@
-use borrow.Author.Rules.{rules}
 use Rattle.across_frames.proofs.Copied.{four_cleared}
 use Rattle.across_frames.proofs.enter.clear_four.Goals as goal
 

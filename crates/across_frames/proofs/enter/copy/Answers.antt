@@ -1,4 +1,3 @@
-use borrow.Author.Rules.{rules}
 use Rattle.state.specs.Work.{copy_of}
 use Rattle.across_frames.proofs.Copied.{fours_none, copied_one, copied_two}
 use Rattle.across_frames.proofs.enter.copy.Goals as goal

@@ -1,4 +1,3 @@
-use borrow.Author.Rules.{rules}
 use Rattle.across_frames.proofs.Copied.{four_sets}
 use Rattle.across_frames.proofs.enter.copy_four.Goals as goal
 

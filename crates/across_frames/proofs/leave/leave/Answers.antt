@@ -1,13 +1,9 @@
 -- the work at entry
-use borrow.Author.Rules.{rules}
 use Prim.Native.Nat.{◌+◌}
 use mathlib.Core.Path.{sym, ◌∙◌}
-use mathlib.Core.Option.{Option}
 use native.Mathlib.Omega.{arith}
 use lib.ListN.{get_or}
-use borrow.Author.Tests.{leb-true, not-false}
-use Rattle.model.specs.State.{Value}
-use Rattle.state.specs.View.{Work}
+use borrow.Author.Tests.{leb-true}
 use Rattle.state.specs.Work.{due_of_byte, value_due}
 use Rattle.across_frames.specs.Lent.{regs_at, on_leave, CallRanges}
 use Rattle.across_frames.proofs.Moving.{landed, ends, instead}

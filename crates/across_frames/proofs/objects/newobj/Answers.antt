@@ -1,9 +1,7 @@
 -- the work at entry
-use borrow.Author.Rules.{rules}
 use mathlib.Core.Path.{refl, ◌∙◌}
 use native.Mathlib.Omega.{arith}
 use lib.ListN.{set}
-use Rattle.state.specs.View.{Work}
 use Rattle.state.specs.Work.{with_marks}
 use Rattle.across_frames.specs.Lent.{regs_at, on_leave}
 use Rattle.across_frames.proofs.Made.{new_none, new_takes, making_none, making_full, making_goes}

@@ -1,10 +1,8 @@
 -- the work at entry
-use borrow.Author.Rules.{rules}
 use Prim.Native.Nat.{◌+◌}
 use mathlib.Core.Path.{refl, ◌∙◌}
 use native.Mathlib.Omega.{arith}
 use lib.ListN.{get_or}
-use Rattle.state.specs.View.{Work}
 use Rattle.across_frames.specs.Lent.{regs_at, on_leave}
 use Rattle.across_frames.proofs.Handed.{below_at, below_depth, landed_back, return_over, return_back, back_none, back_one}
 use Rattle.across_frames.proofs.Moving.{landed, ends, finished, goes, through, aside}

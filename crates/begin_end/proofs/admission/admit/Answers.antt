@@ -1,8 +1,6 @@
-use borrow.Author.Tests.{not-true, not-false}
 use mathlib.Core.Path.{refl, sym, ◌∙◌}
 use Rattle.model.specs.Answer.{pick, only_if}
 use Rattle.begin_end.proofs.Admitting.{miscounted, turned_down, let_in}
-use borrow.Author.Rules.{rules}
 use Rattle.begin_end.proofs.admission.admit.Goals as goal
 
 pub returns-then-given-wide : goal.returns-then-given-wide

@@ -1,8 +1,5 @@
-use mathlib.Core.Path.{◌≡◌, sym, ◌∙◌}
-use Prim.Native.Nat.{◌-◌, ◌≤◌}
-use lib.ListN.{length}
+use mathlib.Core.Path.{sym, ◌∙◌}
 use native.Mathlib.Omega.{arith}
-use Rattle.state.specs.Work.{copy_of}
 use Rattle.begin_end.proofs.Laying.{copy_first, copy_more, copy_done}
 use Rattle.begin_end.proofs.admission.lay.Goals as goal
 

@@ -1,9 +1,7 @@
-use mathlib.Core.Path.{◌≡◌, sym, ◌∙◌}
+use mathlib.Core.Path.{◌≡◌}
 use Prim.Native.Nat.{◌-◌, ◌≤◌}
 use lib.ListN.{length}
-use native.Mathlib.Omega.{arith}
 use Rattle.state.specs.Work.{copy_of}
-use Rattle.begin_end.proofs.Laying.{copy_first, copy_more, copy_done}
 use Rattle.begin_end.proofs.admission.lay.Given as goal
 
 abbrev pub invariant-loop-i : goal.invariant-loop-i

@@ -1,7 +1,6 @@
 use borrow.Author.Tests.{eq-eqb, ne_eqb}
 use Rattle.model.specs.Answer.{pick}
 use Rattle.begin_end.specs.Admission.{takes}
-use borrow.Author.Rules.{rules}
 use Rattle.begin_end.proofs.admission.takes.Goals as goal
 
 pub returns-then-byte-eq-INT32 : goal.returns-then-byte-eq-INT32

@@ -1,10 +1,5 @@
-use borrow.Author.Tests.{not-true, not-false}
-use mathlib.Core.Path.{◌≡◌, sym, ◌∙◌}
-use Prim.Native.Nat.{◌+◌, ◌-◌, ◌≤◌}
-use lib.ListN.{length, drop}
+use mathlib.Core.Path.{sym, ◌∙◌}
 use native.Mathlib.Omega.{arith}
-use borrow.Author.Rules.{rules}
-use Rattle.begin_end.specs.Admission.{takes_all}
 use Rattle.begin_end.proofs.Admitting.{takes_first, takes_more, takes_end, takes_done}
 use Rattle.begin_end.proofs.admission.takes_all.Goals as goal
 

@@ -1,11 +1,7 @@
-use borrow.Author.Tests.{not-true, not-false}
-use mathlib.Core.Path.{◌≡◌, sym, ◌∙◌}
+use mathlib.Core.Path.{◌≡◌}
 use Prim.Native.Nat.{◌+◌, ◌-◌, ◌≤◌}
 use lib.ListN.{length, drop}
-use native.Mathlib.Omega.{arith}
-use borrow.Author.Rules.{rules}
 use Rattle.begin_end.specs.Admission.{takes_all}
-use Rattle.begin_end.proofs.Admitting.{takes_first, takes_more, takes_end, takes_done}
 use Rattle.begin_end.proofs.admission.takes_all.Given as goal
 
 abbrev pub invariant-loop-i : goal.invariant-loop-i

@@ -1,7 +1,6 @@
 use native.Mathlib.Omega.{arith}
 use mathlib.Core.Path.{refl}
 use Rattle.begin_end.proofs.Started.{alone, above, entry_of}
-use borrow.Author.Rules.{rules}
 use Rattle.begin_end.proofs.beginning.first.Goals as goal
 
 pub mark-requires : goal.mark-requires

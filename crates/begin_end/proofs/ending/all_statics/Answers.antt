@@ -1,10 +1,4 @@
-use Prim.Native.Nat.{◌-◌, ◌≤◌}
-use mathlib.Core.Path.{◌≡◌}
-use lib.ListN.{length, get_or}
-use Rattle.state.specs.Layout.{tidy_byte}
-use Rattle.begin_end.specs.Ending.{Changed}
 use Rattle.begin_end.proofs.Changing.{unchanged, statics_more, statics_all}
-use borrow.Author.Rules.{rules}
 use native.Mathlib.Omega.{arith}
 use Rattle.begin_end.proofs.ending.all_statics.Goals as goal
 

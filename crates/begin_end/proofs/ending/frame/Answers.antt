@@ -1,6 +1,5 @@
 use mathlib.Core.Path.{refl}
 use Rattle.begin_end.proofs.Tidied.{frame_left}
-use borrow.Author.Rules.{rules}
 use Rattle.begin_end.proofs.ending.frame.Goals as goal
 
 pub returns : goal.returns

@@ -2,9 +2,7 @@ use Prim.Native.Nat.{◌-◌, ◌*◌, ◌≤◌}
 use mathlib.Core.Path.{◌≡◌}
 use lib.ListN.{length}
 use Rattle.begin_end.specs.Ending.{Waiting}
-use Rattle.begin_end.proofs.Changing.{unchanged}
-use Rattle.begin_end.proofs.Tidied.{cells_to, cells_more, cells_all, still_deep, still_rowed}
-use native.Mathlib.Omega.{arith}
+use Rattle.begin_end.proofs.Tidied.{cells_to}
 use Rattle.begin_end.proofs.ending.frames.Given as goal
 
 abbrev pub invariant-loop-f : goal.invariant-loop-f

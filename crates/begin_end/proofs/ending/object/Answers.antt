@@ -1,11 +1,8 @@
-use Prim.Native.Nat.{◌+◌, ◌-◌, ◌*◌, ◌≤◌, ◌<◌}
-use mathlib.Core.Path.{◌≡◌, sym, ◌∙◌}
-use lib.ListN.{length, get_or}
-use Rattle.state.specs.Layout.{tidy_byte}
-use Rattle.begin_end.specs.Ending.{Changed}
+use Prim.Native.Nat.{◌+◌, ◌-◌, ◌*◌}
+use mathlib.Core.Path.{sym, ◌∙◌}
+use lib.ListN.{get_or}
 use Rattle.begin_end.proofs.Changing.{reached, none_yet, typed_more}
 use Rattle.begin_end.proofs.Tidied.{no_object_left}
-use borrow.Author.Rules.{rules}
 use native.Mathlib.Omega.{arith}
 use Rattle.begin_end.proofs.ending.object.Goals as goal
 

@@ -1,10 +1,5 @@
-use Prim.Native.Nat.{◌-◌, ◌*◌, ◌≤◌}
-use mathlib.Core.Path.{◌≡◌}
-use lib.ListN.{length}
-use Rattle.state.specs.Meets.{Placed}
-use Rattle.begin_end.specs.Ending.{Blank}
 use Rattle.begin_end.proofs.Changing.{unchanged}
-use Rattle.begin_end.proofs.Tidied.{fields_to, objects_more, objects_all, still_blank}
+use Rattle.begin_end.proofs.Tidied.{objects_more, objects_all, still_blank}
 use native.Mathlib.Omega.{arith}
 use Rattle.begin_end.proofs.ending.objects.Goals as goal
 

@@ -3,9 +3,7 @@ use mathlib.Core.Path.{◌≡◌}
 use lib.ListN.{length}
 use Rattle.state.specs.Meets.{Placed}
 use Rattle.begin_end.specs.Ending.{Blank}
-use Rattle.begin_end.proofs.Changing.{unchanged}
-use Rattle.begin_end.proofs.Tidied.{fields_to, objects_more, objects_all, still_blank}
-use native.Mathlib.Omega.{arith}
+use Rattle.begin_end.proofs.Tidied.{fields_to}
 use Rattle.begin_end.proofs.ending.objects.Given as goal
 
 abbrev pub invariant-loop-place : goal.invariant-loop-place

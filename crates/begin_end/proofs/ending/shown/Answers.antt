@@ -1,7 +1,6 @@
 use borrow.Author.Tests.{eq-eqb, ne_eqb}
 use Rattle.model.specs.Answer.{pick}
 use Rattle.state.specs.Layout.{tidy_bits}
-use borrow.Author.Rules.{rules}
 use Rattle.begin_end.proofs.ending.shown.Goals as goal
 
 pub returns-then-kind-eq-INT32 : goal.returns-then-kind-eq-INT32

@@ -1,7 +1,6 @@
 use borrow.Author.Tests.{lt-ltb, le-ltb}
 use Rattle.model.specs.Answer.{pick}
 use Rattle.state.specs.Layout.{signed32}
-use borrow.Author.Rules.{rules}
 use Rattle.begin_end.proofs.ending.signed.Goals as goal
 
 pub returns-then-low-lt-POSITIVE : goal.returns-then-low-lt-POSITIVE

@@ -1,4 +1,3 @@
-use borrow.Author.Rules.{rules}
 use Rattle.begin_end.specs.Ending.{saved_cells}
 use Rattle.begin_end.proofs.Tidied.{saved_long, saved_waits, waits_on, same_kinds}
 use Rattle.begin_end.proofs.ending.tidy.Goals as goal

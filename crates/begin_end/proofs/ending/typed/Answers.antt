@@ -1,7 +1,6 @@
 use borrow.Author.Tests.{eq-eqb, ne_eqb}
 use Rattle.model.specs.Answer.{pick}
 use Rattle.state.specs.Layout.{tidy_byte}
-use borrow.Author.Rules.{rules}
 use Rattle.begin_end.proofs.ending.typed.Goals as goal
 
 pub returns-then-byte-eq0 : goal.returns-then-byte-eq0

@@ -1,10 +1,5 @@
-use Prim.Native.Nat.{◌+◌, ◌-◌, ◌*◌, ◌≤◌}
-use mathlib.Core.Path.{◌≡◌}
-use lib.ListN.{length, get_or}
-use Rattle.state.specs.Layout.{tidy_byte}
-use Rattle.begin_end.specs.Ending.{Changed}
+use Prim.Native.Nat.{◌*◌}
 use Rattle.begin_end.proofs.Changing.{reached, none_yet, typed_more}
-use borrow.Author.Rules.{rules}
 use native.Mathlib.Omega.{arith}
 use Rattle.begin_end.proofs.ending.variables.Goals as goal
 

@@ -3,9 +3,6 @@ use mathlib.Core.Path.{◌≡◌}
 use lib.ListN.{length, get_or}
 use Rattle.state.specs.Layout.{tidy_byte}
 use Rattle.begin_end.specs.Ending.{Changed}
-use Rattle.begin_end.proofs.Changing.{reached, none_yet, typed_more}
-use borrow.Author.Rules.{rules}
-use native.Mathlib.Omega.{arith}
 use Rattle.begin_end.proofs.ending.variables.Given as goal
 
 abbrev pub invariant-loop-i : goal.invariant-loop-i

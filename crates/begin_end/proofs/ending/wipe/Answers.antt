@@ -1,7 +1,4 @@
-use Prim.Native.Nat.{◌-◌, ◌≤◌}
-use mathlib.Core.Path.{◌≡◌, refl}
-use lib.ListN.{length}
-use Rattle.begin_end.specs.Ending.{Changed}
+use mathlib.Core.Path.{refl}
 use Rattle.begin_end.proofs.Changing.{unchanged, change_more, reached}
 use native.Mathlib.Omega.{arith}
 use Rattle.begin_end.proofs.ending.wipe.Goals as goal

@@ -1,9 +1,7 @@
 use Prim.Native.Nat.{◌-◌, ◌≤◌}
-use mathlib.Core.Path.{◌≡◌, refl}
+use mathlib.Core.Path.{◌≡◌}
 use lib.ListN.{length}
 use Rattle.begin_end.specs.Ending.{Changed}
-use Rattle.begin_end.proofs.Changing.{unchanged, change_more, reached}
-use native.Mathlib.Omega.{arith}
 use Rattle.begin_end.proofs.ending.wipe.Given as goal
 
 abbrev pub invariant-loop-i : goal.invariant-loop-i

@@ -1,5 +1,4 @@
 -- `answer` meets its contract.
-use borrow.Author.Rules.{rules}
 use mathlib.Core.Path.{refl}
 use Rattle.loitsupar.proofs.Answered.{stands, ready}
 use Rattle.case_line.proofs.Lines.{refused_load, loaded}

@@ -1,5 +1,4 @@
 -- `loaded_rest` meets its contract.
-use borrow.Author.Rules.{rules}
 use mathlib.Core.Path.{refl, sym, ◌∙◌}
 use native.Mathlib.Omega.{arith}
 use Rattle.model.specs.Turn.{dash}

@@ -1,5 +1,4 @@
 -- `check_part` meets its contract: the word, then three numbers.
-use borrow.Author.Rules.{rules}
 use Rattle.model.specs.Replay.{word_check}
 use Rattle.line.proofs.Appending.{same, then}
 use Rattle.case_line.specs.Texts.{strike}

@@ -1,5 +1,4 @@
 -- `load_part` meets its contract: the word, then two numbers.
-use borrow.Author.Rules.{rules}
 use Rattle.model.specs.Replay.{word_load}
 use Rattle.line.proofs.Appending.{same, then}
 use Rattle.case_line.proofs.Lines.{load_text_lem}

@@ -1,5 +1,4 @@
 -- `refused_rest` meets its contract.
-use borrow.Author.Rules.{rules}
 use Rattle.model.specs.Turn.{dash}
 use Rattle.line.proofs.Appending.{same, then}
 use Rattle.case_line.specs.Case.{line_feed}

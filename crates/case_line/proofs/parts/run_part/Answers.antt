@@ -1,5 +1,4 @@
 -- `run_part` meets its contract: the word, four numbers, the value, and the bar.
-use borrow.Author.Rules.{rules}
 use Rattle.model.specs.Replay.{word_run, bar}
 use Rattle.line.specs.Values.{value_of}
 use Rattle.line.proofs.Appending.{same, then}

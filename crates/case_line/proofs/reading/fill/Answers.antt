@@ -1,8 +1,7 @@
 -- `fill` meets its contract: what is filled so far are the first numbers.
-use Prim.Native.Nat.{◌≤◌, ◌-◌}
 use mathlib.Core.Path.{◌≡◌, refl, ap, ◌∙◌}
 use native.Mathlib.Omega.{arith}
-use lib.ListN.{length, take, length-set}
+use lib.ListN.{length-set}
 use Rattle.model.specs.Loading.{little}
 use Rattle.case_line.specs.Case.{words as words_of}
 use Rattle.case_line.proofs.Cases.{next_word}

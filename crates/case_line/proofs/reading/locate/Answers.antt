@@ -1,5 +1,4 @@
 -- `locate` meets its contract.
-use borrow.Author.Rules.{rules}
 use mathlib.Core.Path.{ap, ◌∙◌}
 use native.Mathlib.Omega.{arith}
 use Rattle.model.specs.Loading.{little}

@@ -6,7 +6,6 @@ use borrow.Author.Tests.{lt-ltb, le-ltb, eq-eqb, ne_eqb}
 use lib.ListN.{get_or}
 use Rattle.model.specs.Answer.{pick}
 use Rattle.check_operands.specs.Groups.{group_of}
-use borrow.Author.Rules.{rules}
 use Rattle.check_operands.proofs.group.group.Goals as goal
 
 pub returns-then-op-lt256 : goal.returns-then-op-lt256

@@ -1,7 +1,6 @@
 use Rattle.check_operands.proofs.Operands.{type_none, type_some}
 use native.Mathlib.Omega.{arith}
 use Prim.Native.Nat.{◌+◌, ◌*◌}
-use borrow.Author.Rules.{rules}
 use Rattle.check_operands.proofs.operand.declared.Goals as goal
 
 pub returns-then-most-i : goal.returns-then-most-i

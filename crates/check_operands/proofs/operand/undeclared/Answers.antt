@@ -3,7 +3,6 @@ use Rattle.check_operands.specs.Groups.{plain_by, in_opcode}
 use Rattle.model.specs.Answer.{pick}
 use Rattle.model.specs.Code.{operands, Act}
 use Rattle.model.specs.Tables.{arguments}
-use borrow.Author.Rules.{rules}
 use Rattle.check_operands.proofs.operand.undeclared.Goals as goal
 
 pub returns-in-8 : goal.returns-in-8

@@ -1,10 +1,8 @@
 -- `found_at` meets its contract: 0 stands where no shape is found.
 use Rattle.checker.proofs.Telling.{past_none, none_told, some_told, told_none}
 use Rattle.checker.specs.Told.{told}
-use Rattle.shapes.specs.Pool.{Pool, pool}
-use borrow.Author.Rules.{rules}
+use Rattle.shapes.specs.Pool.{pool}
 use mathlib.Core.Path.{refl, sym, ap, ◌∙◌}
-use Prim.Native.Nat.{ℕ}
 use Rattle.checker.proofs.tell.found_at.Goals as goal
 
 pub returns-then-size-offset : goal.returns-then-size-offset

@@ -4,10 +4,8 @@ use Rattle.checker.proofs.Telling.{no_method_lem, method_found, method_passed, r
 use Rattle.checker.proofs.Whole.{the_row, held, held_code, ready_first, failed}
 use Rattle.checker.specs.Answers.{lent}
 use Rattle.checker.specs.Told.{told}
-use Rattle.loaded.specs.declared.Loaded.{Loaded}
 use Rattle.model.specs.Check.{check_method}
 use lib.ListN.{length, length-replicate}
-use borrow.Author.Rules.{rules}
 use native.Mathlib.Omega.{arith}
 use mathlib.Core.List.{List}
 use mathlib.Core.Path.{sym, ap, ◌∙◌, subst}

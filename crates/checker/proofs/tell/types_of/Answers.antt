@@ -1,13 +1,11 @@
 -- `types_of` meets its contract: types are told from the top down, the first one last.
-use Rattle.checker.proofs.Telling.{Telling, telling_start, telling_next, telling_end}
+use Rattle.checker.proofs.Telling.{telling_start, telling_next, telling_end}
 use Rattle.shapes.proofs.Showing.{height}
-use Rattle.shapes.specs.Pool.{pool, Fine, Shows}
-use Rattle.model.specs.Check.{Shape}
-use lib.ListN.{length, length-set, length-replicate}
+use lib.ListN.{length-set, length-replicate}
 use borrow.Author.Rules.{rules}
 use native.Mathlib.Omega.{arith}
-use mathlib.Core.Path.{◌≡◌, ◌∙◌}
-use Prim.Native.Nat.{ℕ, ◌≤◌, ◌<◌}
+use mathlib.Core.Path.{◌∙◌}
+use Prim.Native.Nat.{ℕ}
 use Rattle.checker.proofs.tell.types_of.Goals as goal
 
 pub returns-then-depth-gt-MOST_STACK : goal.returns-then-depth-gt-MOST_STACK

@@ -1,11 +1,8 @@
-use Rattle.checker.proofs.Telling.{Telling, telling_start, telling_next, telling_end}
-use Rattle.shapes.proofs.Showing.{height}
+use Rattle.checker.proofs.Telling.{Telling}
 use Rattle.shapes.specs.Pool.{pool, Fine, Shows}
 use Rattle.model.specs.Check.{Shape}
-use lib.ListN.{length, length-set, length-replicate}
-use borrow.Author.Rules.{rules}
-use native.Mathlib.Omega.{arith}
-use mathlib.Core.Path.{◌≡◌, ◌∙◌}
+use lib.ListN.{length}
+use mathlib.Core.Path.{◌≡◌}
 use Prim.Native.Nat.{ℕ, ◌≤◌, ◌<◌}
 use Rattle.checker.proofs.tell.types_of.Given as goal
 

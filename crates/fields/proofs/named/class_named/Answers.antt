@@ -1,4 +1,3 @@
-use borrow.Author.Rules.{rules}
 use Rattle.code.proofs.There.{there}
 use Rattle.fields.proofs.Naming.{class_cut, class_past, class_found}
 use mathlib.Core.Path.{ap}

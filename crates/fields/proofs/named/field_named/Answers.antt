@@ -1,4 +1,3 @@
-use borrow.Author.Rules.{rules}
 use Rattle.code.proofs.There.{there}
 use Rattle.fields.proofs.Naming.{field_cut, field_past, field_other, field_found}
 use mathlib.Core.Path.{ap}

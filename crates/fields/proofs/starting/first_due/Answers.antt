@@ -1,4 +1,3 @@
-use borrow.Author.Rules.{rules}
 use Rattle.fields.proofs.Started.{starts_marked, starts_first}
 use Rattle.fields.proofs.starting.first_due.Goals as goal
 

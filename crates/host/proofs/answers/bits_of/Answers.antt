@@ -1,5 +1,4 @@
 -- `bits_of` meets its contract, value by value.
-use borrow.Author.Rules.{rules}
 use mathlib.Core.Path.{sym, ap}
 use Rattle.host.specs.Hosting.{bits_of}
 use Rattle.host.proofs.answers.bits_of.Goals as goal

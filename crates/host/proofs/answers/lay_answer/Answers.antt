@@ -1,5 +1,4 @@
 -- `lay_answer` meets its contract, cell by cell.
-use borrow.Author.Rules.{rules}
 use native.Mathlib.Omega.{arith}
 use lib.ListN.{length-set}
 use Rattle.host.specs.Hosting.{fault_cells, told_cells}

@@ -1,5 +1,4 @@
 -- `sort_of` meets its contract, value by value.
-use borrow.Author.Rules.{rules}
 use mathlib.Core.Path.{sym, ap}
 use Rattle.host.specs.Hosting.{sort_of}
 use Rattle.host.proofs.answers.sort_of.Goals as goal

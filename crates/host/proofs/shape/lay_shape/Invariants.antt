@@ -1,7 +1,6 @@
-use borrow.Author.Rules.{rules}
 use Prim.Native.Nat.{◌-◌}
-use Rattle.host.specs.Hosting.{shape_cell, shape_cells}
-use Rattle.host.proofs.Laying.{Laid, none_laid, one_more, all_laid}
+use Rattle.host.specs.Hosting.{shape_cell}
+use Rattle.host.proofs.Laying.{Laid}
 use Rattle.host.proofs.shape.lay_shape.Given as goal
 
 abbrev pub invariant-loop-i : goal.invariant-loop-i

@@ -1,5 +1,4 @@
 -- `shape_cell` meets its contract, part by part.
-use borrow.Author.Rules.{rules}
 use mathlib.Core.Path.{◌∙◌}
 use Rattle.host.proofs.Places.{as_flag, in_starts, in_depth, in_types}
 use Rattle.host.proofs.shape.shape_cell.Goals as goal

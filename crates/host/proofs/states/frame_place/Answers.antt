@@ -1,5 +1,4 @@
 -- `frame_place` meets its contract, part by part.
-use borrow.Author.Rules.{rules}
 use mathlib.Core.Path.{◌∙◌}
 use Rattle.host.proofs.Places.{in_stacks, in_arguments, in_locals, in_offsets, in_heights, in_methods}
 use Rattle.host.proofs.states.frame_place.Goals as goal

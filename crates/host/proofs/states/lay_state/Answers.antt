@@ -1,8 +1,7 @@
 -- `lay_state` meets its contract: what is laid so far is the first i cells.
 use borrow.Author.Rules.{rules}
-use Prim.Native.Nat.{◌-◌}
-use Rattle.host.specs.Hosting.{lent_state, state_cell, state_cells}
-use Rattle.host.proofs.Laying.{Laid, none_laid, one_more, all_laid}
+use Rattle.host.specs.Hosting.{state_cells}
+use Rattle.host.proofs.Laying.{none_laid, one_more, all_laid}
 use Rattle.host.proofs.states.lay_state.Goals as goal
 
 pub loop-i-init : goal.loop-i-init

@@ -1,7 +1,6 @@
-use borrow.Author.Rules.{rules}
 use Prim.Native.Nat.{◌-◌}
-use Rattle.host.specs.Hosting.{lent_state, state_cell, state_cells}
-use Rattle.host.proofs.Laying.{Laid, none_laid, one_more, all_laid}
+use Rattle.host.specs.Hosting.{lent_state, state_cell}
+use Rattle.host.proofs.Laying.{Laid}
 use Rattle.host.proofs.states.lay_state.Given as goal
 
 abbrev pub invariant-loop-i : goal.invariant-loop-i

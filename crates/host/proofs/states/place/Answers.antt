@@ -1,5 +1,4 @@
 -- `place` meets its contract: a frame is one of 32, and a cell of its part is below the width.
-use borrow.Author.Rules.{rules}
 use mathlib.Core.Path.{refl}
 use native.Mathlib.Nat.{mod-lt}
 use native.Mathlib.Omega.{arith}

@@ -1,5 +1,4 @@
 -- `state_cell` meets its contract, part by part.
-use borrow.Author.Rules.{rules}
 use mathlib.Core.Path.{◌∙◌}
 use Rattle.host.proofs.Places.{in_live, in_kinds, in_frames, in_statics, in_marks, in_classes, in_heap}
 use Rattle.host.proofs.states.state_cell.Goals as goal

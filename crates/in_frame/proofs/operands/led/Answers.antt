@@ -1,4 +1,3 @@
-use Rattle.std.proofs.Common.{rules}
 use Rattle.in_frame.proofs.Signed.{lands}
 use Rattle.in_frame.proofs.operands.led.Goals as goal
 

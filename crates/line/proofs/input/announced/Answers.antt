@@ -1,5 +1,4 @@
 -- `announced` meets its contract: the tests in the model's order, each with its law.
-use borrow.Author.Rules.{rules}
 use Rattle.line.specs.declared.input.Input.TheVariants.{Cut, TooLong}
 use Rattle.line.proofs.Inputs.{said, under_two, tables_long, cut_short, code_long, whole}
 use Rattle.line.proofs.input.announced.Goals as goal

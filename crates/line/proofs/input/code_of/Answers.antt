@@ -1,5 +1,4 @@
 -- `code_of` meets its contract: what follows where the code begins.
-use borrow.Author.Rules.{rules}
 use Rattle.line.proofs.Inputs.{code_part}
 use Rattle.line.proofs.input.code_of.Goals as goal
 

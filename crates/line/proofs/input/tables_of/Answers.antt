@@ -1,5 +1,4 @@
 -- `tables_of` meets its contract: what lies between the two bytes and the code.
-use borrow.Author.Rules.{rules}
 use mathlib.Core.Path.{refl}
 use native.Mathlib.Omega.{arith}
 use Rattle.line.proofs.Inputs.{tables_part}

@@ -1,5 +1,4 @@
 -- `append_line` meets its contract: six appends, one after the other.
-use borrow.Author.Rules.{rules}
 use Rattle.line.specs.Values.{value_of}
 use Rattle.line.proofs.Appending.{same, then}
 use Rattle.line.proofs.Lines.{in_order}

@@ -1,5 +1,4 @@
 -- `line` meets its contract: a line has room in 128 bytes.
-use borrow.Author.Rules.{rules}
 use native.Mathlib.Omega.{arith}
 use Rattle.line.proofs.Lines.{alone}
 use Rattle.line.proofs.line.line.Goals as goal

@@ -1,5 +1,4 @@
 -- `number` meets its contract: the digits, then the space.
-use borrow.Author.Rules.{rules}
 use Rattle.model.specs.Turn.{space}
 use Rattle.line.proofs.Appending.{then}
 use Rattle.line.proofs.line.number.Goals as goal

@@ -1,12 +1,8 @@
 -- `decimal` meets its contract: the digits above the last one, then the last one. The measure is the number.
-use Prim.Native.Nat.{ℕ, ◌<◌}
 use native.Mathlib.Omega.{arith}
-use borrow.Author.Rules.{rules}
-use borrow.Fn.Kinds.{In}
 use mathlib.Core.Path.{sym}
 use Rattle.line.proofs.Appending.{same, then}
 use Rattle.line.proofs.Spelling.{decimal_one, decimal_last}
-use Rattle.line.proofs.numbers.+decimal.{statement}
 use Rattle.line.proofs.numbers.+decimal.Goals as goal
 
 -- what `decimal` is given at the measure t, and what a call of it asks below t

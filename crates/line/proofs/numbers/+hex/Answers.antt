@@ -1,12 +1,8 @@
 -- `hex` meets its contract: the digits above the last one, then the last one. The measure is their count.
-use Prim.Native.Nat.{ℕ, ◌<◌}
 use native.Mathlib.Omega.{arith}
-use borrow.Author.Rules.{rules}
-use borrow.Fn.Kinds.{In}
 use mathlib.Core.Path.{sym}
 use Rattle.line.proofs.Appending.{nothing, same, then}
 use Rattle.line.proofs.Spelling.{hex_none, hex_last}
-use Rattle.line.proofs.numbers.+hex.{statement}
 use Rattle.line.proofs.numbers.+hex.Goals as goal
 
 -- what `hex` is given at the measure t, and what a call of it asks below t

@@ -1,5 +1,4 @@
 -- `digit` meets its contract.
-use borrow.Author.Rules.{rules}
 use borrow.Author.Tests.{lt-ltb, le-ltb}
 use Rattle.model.specs.Answer.{pick}
 use Rattle.model.specs.Turn.{hex_digit}

@@ -1,5 +1,4 @@
 -- `put` meets its contract: stored, or dropped.
-use borrow.Author.Rules.{rules}
 use Rattle.line.proofs.Appending.{stored, dropped}
 use Rattle.line.proofs.numbers.put.Goals as goal
 

@@ -1,5 +1,4 @@
 -- `signed` meets its contract: the lower half of the width's numbers as they are, the upper half with a minus.
-use borrow.Author.Rules.{rules}
 use Rattle.line.proofs.Appending.{same, then}
 use Rattle.line.proofs.Spelling.{at_most, plain, minus}
 use Rattle.line.proofs.numbers.signed.Goals as goal

@@ -1,9 +1,6 @@
 -- `word` meets its contract. What is appended so far is the text's first i bytes.
 use borrow.Author.Rules.{rules}
-use mathlib.Core.Path.{◌≡◌, refl, ◌∙◌}
-use Prim.Native.Nat.{◌-◌, ◌≤◌}
-use lib.ListN.{length, take}
-use Rattle.line.specs.Append.{Appended}
+use mathlib.Core.Path.{refl, ◌∙◌}
 use Rattle.line.proofs.Appending.{nothing, further, through}
 use Rattle.line.proofs.numbers.word.Goals as goal
 

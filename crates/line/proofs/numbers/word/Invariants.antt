@@ -1,9 +1,7 @@
-use borrow.Author.Rules.{rules}
-use mathlib.Core.Path.{◌≡◌, refl, ◌∙◌}
+use mathlib.Core.Path.{◌≡◌}
 use Prim.Native.Nat.{◌-◌, ◌≤◌}
 use lib.ListN.{length, take}
 use Rattle.line.specs.Append.{Appended}
-use Rattle.line.proofs.Appending.{nothing, further, through}
 use Rattle.line.proofs.numbers.word.Given as goal
 
 abbrev pub invariant-loop-i : goal.invariant-loop-i

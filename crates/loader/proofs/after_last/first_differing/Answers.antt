@@ -1,14 +1,10 @@
 -- `loader::after_last::first_differing` meets its contract.
 use native.Mathlib.Omega.{arith}
-use mathlib.Core.Path.{◌≡◌, refl, sym, ap, ◌∙◌}
+use mathlib.Core.Path.{refl, sym, ap, ◌∙◌}
 use mathlib.Core.Option.{Option}
-use mathlib.Core.List.{List}
-use Prim.Native.Nat.{ℕ, ◌+◌, ◌-◌, ◌≤◌}
-use lib.ListN.{length, drop}
-use Rattle.model.specs.Answer.{or_else, first_row}
-use Rattle.model.specs.Tables.{Method}
+use Prim.Native.Nat.{ℕ}
+use Rattle.model.specs.Answer.{or_else}
 use Rattle.model.specs.Loading.{differs}
-use Rattle.loader.specs.Stands.{MethodCells, Sound}
 use Rattle.loader.proofs.Search.{hit, miss, none_left}
 use Rattle.loader.proofs.after_last.first_differing.Goals as goal
 
@@ -23,8 +19,11 @@ differs-requires c = record { row_at_most = let l = c.loop-i-test.true in let p 
 
 pub returns-then-differs : goal.returns-then-differs
 unfolding or_else
-returns-then-differs c = record { result_at_most = omega arith; as_model = λ code ms en s G. let l = c.loop-i-test.true in
-      sym (ap (λ (o : Option ℕ). or_else o 0) (c.loop-i.invariant.1 code ms en s G ∙ hit (differs ms) ms c.loop-i.i (omega arith) (sym (c.differs.ensures code ms s G) ∙ c.if-differs.true))) }
+returns-then-differs c = record {
+  result_at_most = omega arith;
+  as_model = λ code ms en s G. let l = c.loop-i-test.true in
+      sym (ap (λ (o : Option ℕ). or_else o 0) (c.loop-i.invariant.1 code ms en s G ∙ hit (differs ms) ms c.loop-i.i (omega arith) (sym (c.differs.ensures code ms s G) ∙ c.if-differs.true)));
+}
 
 pub loop-i-preserved : goal.loop-i-preserved
 loop-i-preserved c = (
@@ -35,5 +34,8 @@ loop-i-preserved c = (
 
 pub returns : goal.returns
 unfolding or_else
-returns c = record { result_at_most = omega arith; as_model = λ code ms en s G. let l = c.loop-i-test.false in
-      sym (ap (λ (o : Option ℕ). or_else o 0) (c.loop-i.invariant.1 code ms en s G ∙ none_left (differs ms) ms c.loop-i.i (omega arith))) }
+returns c = record {
+  result_at_most = omega arith;
+  as_model = λ code ms en s G. let l = c.loop-i-test.false in
+      sym (ap (λ (o : Option ℕ). or_else o 0) (c.loop-i.invariant.1 code ms en s G ∙ none_left (differs ms) ms c.loop-i.i (omega arith)));
+}

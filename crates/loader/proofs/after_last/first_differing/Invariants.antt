@@ -1,14 +1,11 @@
-use native.Mathlib.Omega.{arith}
-use mathlib.Core.Path.{◌≡◌, refl, sym, ap, ◌∙◌}
-use mathlib.Core.Option.{Option}
+use mathlib.Core.Path.{◌≡◌}
 use mathlib.Core.List.{List}
 use Prim.Native.Nat.{ℕ, ◌+◌, ◌-◌, ◌≤◌}
 use lib.ListN.{length, drop}
-use Rattle.model.specs.Answer.{or_else, first_row}
+use Rattle.model.specs.Answer.{first_row}
 use Rattle.model.specs.Tables.{Method}
 use Rattle.model.specs.Loading.{differs}
 use Rattle.loader.specs.Stands.{MethodCells, Sound}
-use Rattle.loader.proofs.Search.{hit, miss, none_left}
 use Rattle.loader.proofs.after_last.first_differing.Given as goal
 
 abbrev pub invariant-loop-i : goal.invariant-loop-i

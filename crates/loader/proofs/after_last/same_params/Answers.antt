@@ -1,12 +1,8 @@
 -- `loader::after_last::same_params` meets its contract.
 use native.Mathlib.Omega.{arith}
-use mathlib.Core.Path.{◌≡◌, refl, sym, ◌∙◌}
-use mathlib.Core.List.{List}
-use Prim.Native.Nat.{ℕ, ◌+◌, ◌-◌, ◌*◌, ◌≤◌, ◌<◌}
-use lib.ListN.{length, get_or, drop}
-use Rattle.model.specs.Answer.{at}
-use Rattle.model.specs.Tables.{Ty, eq_tys}
-use Rattle.loaded.specs.Holds.{byte_at}
+use mathlib.Core.Path.{refl, sym, ◌∙◌}
+use Prim.Native.Nat.{◌+◌, ◌*◌}
+use lib.ListN.{get_or}
 use Rattle.loader.proofs.Search.{equal_on, equal_off, equal_end}
 use Rattle.loader.proofs.after_last.same_params.Goals as goal
 

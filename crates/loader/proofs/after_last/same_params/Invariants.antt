@@ -1,12 +1,10 @@
-use native.Mathlib.Omega.{arith}
-use mathlib.Core.Path.{◌≡◌, refl, sym, ◌∙◌}
+use mathlib.Core.Path.{◌≡◌}
 use mathlib.Core.List.{List}
 use Prim.Native.Nat.{ℕ, ◌+◌, ◌-◌, ◌*◌, ◌≤◌, ◌<◌}
 use lib.ListN.{length, get_or, drop}
 use Rattle.model.specs.Answer.{at}
 use Rattle.model.specs.Tables.{Ty, eq_tys}
 use Rattle.loaded.specs.Holds.{byte_at}
-use Rattle.loader.proofs.Search.{equal_on, equal_off, equal_end}
 use Rattle.loader.proofs.after_last.same_params.Given as goal
 
 abbrev pub invariant-loop-k : goal.invariant-loop-k

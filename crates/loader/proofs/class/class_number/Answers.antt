@@ -2,8 +2,7 @@
 use Rattle.loader.specs.Numbers.{class_number}
 use Rattle.model.specs.Answer.{pick}
 use mathlib.Core.Path.{sym, ◌∙◌}
-use borrow.Author.Tests.{le-ltb, lt-ltb, not-true, not-false}
-use borrow.Author.Rules.{rules}
+use borrow.Author.Tests.{le-ltb, lt-ltb}
 use Rattle.loader.proofs.class.class_number.Goals as goal
 
 pub returns-then-not-follows : goal.returns-then-not-follows

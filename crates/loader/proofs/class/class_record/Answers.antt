@@ -3,7 +3,6 @@ use native.Mathlib.Omega.{arith}
 use mathlib.Core.Path.{sym, ◌∙◌}
 use Rattle.loader.proofs.Open.{refuse, accept, class_open}
 use Rattle.loader.proofs.Classes.{class_goes}
-use borrow.Author.Rules.{rules}
 use Rattle.loader.proofs.class.class_record.Goals as goal
 
 pub returns-then-number-ne0 : goal.returns-then-number-ne0

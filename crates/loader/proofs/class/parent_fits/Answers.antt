@@ -2,7 +2,6 @@
 use Rattle.model.specs.Loading.{parent_fits}
 use Rattle.model.specs.Answer.{pick}
 use borrow.Author.Tests.{eq-eqb, ne_eqb}
-use borrow.Author.Rules.{rules}
 use Rattle.loader.proofs.class.parent_fits.Goals as goal
 
 pub returns-then-classes-eq0 : goal.returns-then-classes-eq0

@@ -2,8 +2,6 @@
 use Rattle.loader.specs.Numbers.{entry_number}
 use Rattle.model.specs.Answer.{pick}
 use mathlib.Core.Path.{sym, ◌∙◌}
-use borrow.Author.Tests.{not-true, not-false}
-use borrow.Author.Rules.{rules}
 use Rattle.loader.proofs.entry.entry_number.Goals as goal
 
 pub returns-then-not-follows : goal.returns-then-not-follows

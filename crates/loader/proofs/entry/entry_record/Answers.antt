@@ -1,5 +1,4 @@
 -- `loader::entry::entry_record` meets its contract.
-use borrow.Author.Rules.{rules}
 use mathlib.Core.Path.{ap}
 use Rattle.loader.specs.Stands.{progress_of}
 use Rattle.loader.specs.declared.order.Progress.{Progress}

@@ -1,14 +1,8 @@
 -- `loader::entry::integers` meets its contract.
 use native.Mathlib.Omega.{arith}
-use borrow.Author.Rules.{rules}
-use mathlib.Core.Path.{◌≡◌, refl, sym, ◌∙◌}
-use mathlib.Core.List.{List}
-use Prim.Native.Nat.{ℕ, ◌+◌, ◌-◌, ◌≤◌, ◌<◌}
-use lib.ListN.{length, get_or, drop}
-use Rattle.model.specs.Answer.{at}
-use Rattle.model.specs.Tables.{Ty}
-use Rattle.model.specs.Loading.{is_integer, all}
-use Rattle.loaded.specs.Holds.{byte_at}
+use mathlib.Core.Path.{refl, sym, ◌∙◌}
+use Prim.Native.Nat.{◌+◌}
+use lib.ListN.{get_or}
 use Rattle.loader.proofs.Search.{all_on, all_off, all_end}
 use Rattle.loader.proofs.entry.integers.Goals as goal
 

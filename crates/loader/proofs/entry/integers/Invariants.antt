@@ -1,6 +1,4 @@
-use native.Mathlib.Omega.{arith}
-use borrow.Author.Rules.{rules}
-use mathlib.Core.Path.{◌≡◌, refl, sym, ◌∙◌}
+use mathlib.Core.Path.{◌≡◌}
 use mathlib.Core.List.{List}
 use Prim.Native.Nat.{ℕ, ◌+◌, ◌-◌, ◌≤◌, ◌<◌}
 use lib.ListN.{length, get_or, drop}
@@ -8,7 +6,6 @@ use Rattle.model.specs.Answer.{at}
 use Rattle.model.specs.Tables.{Ty}
 use Rattle.model.specs.Loading.{is_integer, all}
 use Rattle.loaded.specs.Holds.{byte_at}
-use Rattle.loader.proofs.Search.{all_on, all_off, all_end}
 use Rattle.loader.proofs.entry.integers.Given as goal
 
 abbrev pub invariant-loop-k : goal.invariant-loop-k

@@ -1,11 +1,6 @@
 -- `loader::field::held` meets its contract.
 use native.Mathlib.Omega.{arith}
-use mathlib.Core.Path.{subst}
-use borrow.Author.Rules.{rules}
 use Rattle.loader.proofs.Climb.{steep, parents_of, held_zero, held_far, held_step}
-use Prim.Native.Nat.{ℕ, ◌<◌}
-use borrow.Fn.Kinds.{In}
-use Rattle.loader.proofs.field.+held.{statement}
 use Rattle.loader.proofs.field.+held.Goals as goal
 
 pub returns-then-c-eq0 : goal.returns-then-c-eq0

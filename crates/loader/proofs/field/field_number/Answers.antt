@@ -2,8 +2,7 @@
 use Rattle.loader.specs.Numbers.{field_number}
 use Rattle.model.specs.Answer.{pick}
 use mathlib.Core.Path.{sym, ◌∙◌}
-use borrow.Author.Tests.{le-leb, lt-leb, not-true, not-false}
-use borrow.Author.Rules.{rules}
+use borrow.Author.Tests.{le-leb, lt-leb}
 use Rattle.loader.proofs.field.field_number.Goals as goal
 
 pub returns-then-not-follows : goal.returns-then-not-follows

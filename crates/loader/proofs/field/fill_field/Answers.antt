@@ -1,5 +1,4 @@
 -- `loader::field::fill_field` meets its contract.
-use borrow.Author.Rules.{rules}
 use mathlib.Core.Path.{refl}
 use Rattle.loader.specs.Stands.{stored}
 use Rattle.loader.proofs.field.fill_field.Goals as goal

@@ -1,7 +1,6 @@
 -- `loader::field::next_slot` meets its contract.
 use Rattle.model.specs.Answer.{pick}
 use borrow.Author.Tests.{eq-eqb, ne_eqb}
-use borrow.Author.Rules.{rules}
 use Rattle.loader.proofs.field.next_slot.Goals as goal
 
 pub returns-then-flag-eq1 : goal.returns-then-flag-eq1

@@ -1,6 +1,5 @@
 -- `loader::local::local_record` meets its contract.
 use native.Mathlib.Omega.{arith}
-use borrow.Author.Rules.{rules}
 use mathlib.Core.Path.{sym, ◌∙◌}
 use Rattle.loader.proofs.Open.{refuse, local_open}
 use Rattle.loader.proofs.Later.{local_goes, local_taken}

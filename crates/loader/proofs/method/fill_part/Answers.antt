@@ -1,5 +1,4 @@
 -- `loader::method::fill_part` meets its contract.
-use borrow.Author.Rules.{rules}
 use mathlib.Core.Path.{refl}
 use Rattle.loader.specs.Stands.{stored}
 use Rattle.loader.proofs.method.fill_part.Goals as goal

@@ -1,5 +1,4 @@
 -- `loader::method::fill_row` meets its contract.
-use borrow.Author.Rules.{rules}
 use mathlib.Core.Path.{refl}
 use Rattle.loader.specs.Stands.{stored, method_cells}
 use Rattle.loader.proofs.method.fill_row.Goals as goal

@@ -2,7 +2,6 @@
 use Rattle.loader.specs.Stands.{marked}
 use Rattle.model.specs.Answer.{pick}
 use borrow.Author.Tests.{eq-eqb, ne_eqb}
-use borrow.Author.Rules.{rules}
 use Rattle.loader.proofs.method.mark_initialiser.Goals as goal
 
 pub returns-then-sort-eq-INITIALISER : goal.returns-then-sort-eq-INITIALISER

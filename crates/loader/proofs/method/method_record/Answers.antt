@@ -1,6 +1,5 @@
 -- `loader::method::method_record` meets its contract.
 use native.Mathlib.Omega.{arith}
-use borrow.Author.Rules.{rules}
 use mathlib.Core.Path.{sym, ap, ◌∙◌}
 use Rattle.loader.specs.Stands.{with_parents, progress_of}
 use Rattle.loader.specs.declared.order.Progress.{Progress}

@@ -1,6 +1,5 @@
 -- `loader::method::read_body` meets its contract.
 use Rattle.loader.proofs.Climb.{body}
-use borrow.Author.Rules.{rules}
 use Rattle.loader.proofs.method.read_body.Goals as goal
 
 pub returns : goal.returns

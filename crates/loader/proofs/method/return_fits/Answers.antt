@@ -4,7 +4,6 @@ use Rattle.model.specs.Loading.{return_at}
 use Rattle.loader.specs.Numbers.{is_return, is_type}
 use Rattle.model.specs.Answer.{pick, is_none, map_option}
 use borrow.Author.Tests.{eq-eqb, ne_eqb}
-use borrow.Author.Rules.{rules}
 use Rattle.loader.proofs.method.return_fits.Goals as goal
 
 pub returns-then-t-eq-VOID : goal.returns-then-t-eq-VOID

@@ -3,7 +3,6 @@ use mathlib.Core.Path.{sym, ◌∙◌}
 use Rattle.loader.proofs.Rules.{sort_rule, sort_object, sort_value, sort_single, sort_constructor, sort_other, past}
 use lib.ListN.{get_or}
 use borrow.Author.Tests.{eq-eqb}
-use borrow.Author.Rules.{rules}
 use Rattle.loader.proofs.method.sort_fits.Goals as goal
 
 pub returns-then-o-eq1 : goal.returns-then-o-eq1

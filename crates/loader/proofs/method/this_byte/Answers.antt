@@ -2,7 +2,6 @@
 use Rattle.loader.specs.Stands.{this_byte}
 use Rattle.model.specs.Answer.{pick}
 use borrow.Author.Tests.{eq-eqb, ne_eqb}
-use borrow.Author.Rules.{rules}
 use Rattle.loader.proofs.method.this_byte.Goals as goal
 
 pub returns-then-sort-eq-STATIC : goal.returns-then-sort-eq-STATIC

@@ -2,7 +2,6 @@
 use Rattle.model.specs.Loading.{follows}
 use Rattle.model.specs.Answer.{pick}
 use borrow.Author.Tests.{eq-eqb, ne_eqb}
-use borrow.Author.Rules.{rules}
 use Rattle.loader.proofs.order.follows.Goals as goal
 
 pub returns-then-kind-eq-CLASS : goal.returns-then-kind-eq-CLASS

@@ -1,6 +1,5 @@
 -- `loader::overriding::override_fits` meets its contract.
 use native.Mathlib.Omega.{arith}
-use borrow.Author.Rules.{rules}
 use mathlib.Core.Path.{sym, ap, ◌∙◌}
 use mathlib.Core.Bool.{not}
 use Rattle.model.specs.Tables.{descends}
@@ -24,10 +23,16 @@ pub returns-then-above-b : goal.returns-then-above-b
 returns-then-above-b c = record { as_model = λ h. never h; override_rule = λ L en C G. override_off L G c.args.b.owner c.args.b.sort c.args.b.overridden c.args.n en (off_own c.args.b.overridden c.args.b.sort c.args.b.owner c.args.n _ _ _ c.if-v-eq0.false c.if-b-ne-VIRTUAL.false c.if-n-v.false c.if-methods-base-ne-VIRTUAL.false c.if-above-b.true) }
 
 pub returns-then-descends : goal.returns-then-descends
-returns-then-descends c = record { as_model = λ h. c.if-n-v.false; override_rule = λ L en C G. override_on L G c.args.b.owner c.args.b.sort c.args.b.overridden c.args.n en _ c.if-v-eq0.false c.if-n-v.false
+returns-then-descends c = record {
+  as_model = λ h. c.if-n-v.false;
+  override_rule = λ L en C G. override_on L G c.args.b.owner c.args.b.sort c.args.b.overridden c.args.n en _ c.if-v-eq0.false c.if-n-v.false
       (on_or_off c.args.b.overridden c.args.b.sort c.args.b.owner c.args.n _ _ _ c.if-v-eq0.false c.if-b-ne-VIRTUAL.false c.if-n-v.false c.if-methods-base-ne-VIRTUAL.false c.if-above-b.false ∙ ap (descends L.parents c.args.b.owner) (sym c.wide.ensures.0) ∙ sym (c.descends.ensures L.parents (parents_of C)) ∙ c.if-descends.true)
-      (ap not (c.taken.ensures L.methods en G) ∙ not_not _) }
+      (ap not (c.taken.ensures L.methods en G) ∙ not_not _);
+}
 
 pub returns : goal.returns
-returns c = record { as_model = λ h. never h; override_rule = λ L en C G. override_off L G c.args.b.owner c.args.b.sort c.args.b.overridden c.args.n en
-      (on_or_off c.args.b.overridden c.args.b.sort c.args.b.owner c.args.n _ _ _ c.if-v-eq0.false c.if-b-ne-VIRTUAL.false c.if-n-v.false c.if-methods-base-ne-VIRTUAL.false c.if-above-b.false ∙ ap (descends L.parents c.args.b.owner) (sym c.wide.ensures.0) ∙ sym (c.descends.ensures L.parents (parents_of C)) ∙ c.if-descends.false) }
+returns c = record {
+  as_model = λ h. never h;
+  override_rule = λ L en C G. override_off L G c.args.b.owner c.args.b.sort c.args.b.overridden c.args.n en
+      (on_or_off c.args.b.overridden c.args.b.sort c.args.b.owner c.args.n _ _ _ c.if-v-eq0.false c.if-b-ne-VIRTUAL.false c.if-n-v.false c.if-methods-base-ne-VIRTUAL.false c.if-above-b.false ∙ ap (descends L.parents c.args.b.owner) (sym c.wide.ensures.0) ∙ sym (c.descends.ensures L.parents (parents_of C)) ∙ c.if-descends.false);
+}

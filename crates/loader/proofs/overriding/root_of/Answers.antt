@@ -1,5 +1,4 @@
 -- `loader::overriding::root_of` meets its contract.
-use borrow.Author.Rules.{rules}
 use borrow.Author.Tests.{eq-eqb, ne_eqb}
 use Rattle.model.specs.Answer.{pick}
 use Rattle.loader.specs.Stands.{root_in}

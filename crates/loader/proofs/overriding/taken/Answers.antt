@@ -1,14 +1,10 @@
 -- `loader::overriding::taken` meets its contract.
 use native.Mathlib.Omega.{arith}
-use mathlib.Core.Path.{◌≡◌, sym, ap, ◌∙◌}
+use mathlib.Core.Path.{sym, ap, ◌∙◌}
 use mathlib.Core.Option.{Option}
 use mathlib.Core.Bool.{not}
-use mathlib.Core.List.{List}
-use Prim.Native.Nat.{ℕ, ◌+◌, ◌-◌, ◌≤◌}
-use lib.ListN.{length, drop}
-use Rattle.model.specs.Answer.{is_none, first_row}
-use Rattle.model.specs.Tables.{Method, of_root}
-use Rattle.loader.specs.Stands.{MethodCells}
+use Prim.Native.Nat.{ℕ, ◌+◌}
+use Rattle.model.specs.Answer.{is_none}
 use Rattle.loader.proofs.Rules.{root_test, of_root_lem, root_hit, root_owner, root_other}
 use Rattle.loader.proofs.Search.{hit, miss, none_left}
 use Rattle.loader.proofs.overriding.taken.Goals as goal

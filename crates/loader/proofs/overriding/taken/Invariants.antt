@@ -1,15 +1,11 @@
-use native.Mathlib.Omega.{arith}
-use mathlib.Core.Path.{◌≡◌, sym, ap, ◌∙◌}
-use mathlib.Core.Option.{Option}
-use mathlib.Core.Bool.{not}
+use mathlib.Core.Path.{◌≡◌}
 use mathlib.Core.List.{List}
-use Prim.Native.Nat.{ℕ, ◌+◌, ◌-◌, ◌≤◌}
+use Prim.Native.Nat.{◌+◌, ◌-◌, ◌≤◌}
 use lib.ListN.{length, drop}
-use Rattle.model.specs.Answer.{is_none, first_row}
+use Rattle.model.specs.Answer.{first_row}
 use Rattle.model.specs.Tables.{Method, of_root}
 use Rattle.loader.specs.Stands.{MethodCells}
-use Rattle.loader.proofs.Rules.{root_test, of_root_lem, root_hit, root_owner, root_other}
-use Rattle.loader.proofs.Search.{hit, miss, none_left}
+use Rattle.loader.proofs.Rules.{root_test}
 use Rattle.loader.proofs.overriding.taken.Given as goal
 
 abbrev pub invariant-loop-i : goal.invariant-loop-i

@@ -2,8 +2,7 @@
 use Rattle.loader.specs.Numbers.{param_number}
 use Rattle.model.specs.Answer.{pick}
 use mathlib.Core.Path.{sym, ◌∙◌}
-use borrow.Author.Tests.{le-ltb, lt-ltb, eq-eqb, ne_eqb, not-true, not-false}
-use borrow.Author.Rules.{rules}
+use borrow.Author.Tests.{le-ltb, lt-ltb, eq-eqb, ne_eqb}
 use Rattle.loader.proofs.parameter.param_number.Goals as goal
 
 pub returns-then-not-follows : goal.returns-then-not-follows

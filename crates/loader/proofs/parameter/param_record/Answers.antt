@@ -1,6 +1,5 @@
 -- `loader::parameter::param_record` meets its contract.
 use native.Mathlib.Omega.{arith}
-use borrow.Author.Rules.{rules}
 use mathlib.Core.Path.{sym, ◌∙◌}
 use Rattle.loader.proofs.Open.{refuse, param_open}
 use Rattle.loader.proofs.Later.{param_goes, param_taken}

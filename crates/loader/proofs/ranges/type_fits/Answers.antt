@@ -4,7 +4,6 @@ use Rattle.model.specs.Tables.{type_at}
 use Rattle.loader.specs.Numbers.{is_type}
 use Rattle.model.specs.Answer.{pick, only_if, is_none}
 use borrow.Author.Tests.{le-ltb, lt-ltb, eq-eqb, ne_eqb}
-use borrow.Author.Rules.{rules}
 use Rattle.loader.proofs.ranges.type_fits.Goals as goal
 
 pub returns-then-t-eq-INT32 : goal.returns-then-t-eq-INT32

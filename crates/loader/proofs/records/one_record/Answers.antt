@@ -1,6 +1,5 @@
 -- `loader::records::one_record` meets its contract.
 use native.Mathlib.Omega.{arith}
-use borrow.Author.Rules.{rules}
 use Rattle.loader.proofs.Bodies.{same_record, three_bytes, eleven_bytes, third, one_class, one_field, one_method, one_param, one_local, one_entry}
 use Rattle.loader.proofs.records.one_record.Goals as goal
 

@@ -1,11 +1,8 @@
 -- `loader::records::read_records` meets its contract.
 use native.Mathlib.Omega.{arith}
-use borrow.Author.Rules.{rules}
 use mathlib.Core.Path.{refl, ◌∙◌}
-use Prim.Native.Nat.{◌-◌}
-use lib.ListN.{length}
 use Rattle.loader.proofs.Climb.{fine, small_own}
-use Rattle.loader.proofs.Reading.{Going, start, bytes_there, reads_two, reads_record, goes_on, reads_all}
+use Rattle.loader.proofs.Reading.{start, bytes_there, reads_two, reads_record, goes_on, reads_all}
 use Rattle.loader.proofs.records.read_records.Goals as goal
 
 pub loop-at-init : goal.loop-at-init

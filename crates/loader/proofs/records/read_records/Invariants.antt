@@ -1,10 +1,6 @@
-use native.Mathlib.Omega.{arith}
-use borrow.Author.Rules.{rules}
-use mathlib.Core.Path.{refl, ◌∙◌}
 use Prim.Native.Nat.{◌-◌}
 use lib.ListN.{length}
-use Rattle.loader.proofs.Climb.{fine, small_own}
-use Rattle.loader.proofs.Reading.{Going, start, bytes_there, reads_two, reads_record, goes_on, reads_all}
+use Rattle.loader.proofs.Reading.{Going}
 use Rattle.loader.proofs.records.read_records.Given as goal
 
 abbrev pub invariant-loop-at : goal.invariant-loop-at

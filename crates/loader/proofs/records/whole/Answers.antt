@@ -1,5 +1,4 @@
 -- `loader::records::whole` meets its contract.
-use borrow.Author.Rules.{rules}
 use Rattle.loader.proofs.Reading.{bytes_cut, bytes_whole}
 use Rattle.loader.proofs.records.whole.Goals as goal
 

@@ -1,6 +1,5 @@
 -- `checking::check` meets its contract.
 use mathlib.Core.Path.{refl}
-use borrow.Author.Rules.{rules}
 use Rattle.loitsupar.proofs.Answered.{refused, stands, not_checked, checks, is_checked}
 use Rattle.loitsupar.proofs.checking.check.Goals as goal
 

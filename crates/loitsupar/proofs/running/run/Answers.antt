@@ -1,6 +1,5 @@
 -- `running::run` meets its contract.
 use mathlib.Core.Path.{refl}
-use borrow.Author.Rules.{rules}
 use Rattle.loitsupar.proofs.Answered.{refused, stands, not_run, ready, runs}
 use Rattle.loitsupar.proofs.running.run.Goals as goal
 

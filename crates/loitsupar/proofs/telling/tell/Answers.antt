@@ -1,6 +1,5 @@
 -- `telling::tell` meets its contract.
 use mathlib.Core.Path.{refl}
-use borrow.Author.Rules.{rules}
 use Rattle.loitsupar.proofs.Answered.{refused, stands, not_checked, checks, is_checked, not_told, tells}
 use Rattle.loitsupar.proofs.telling.tell.Goals as goal
 

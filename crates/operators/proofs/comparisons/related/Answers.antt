@@ -1,4 +1,3 @@
-use borrow.Author.Rules.{rules}
 use native.Mathlib.Omega.{arith}
 use Rattle.operators.proofs.ByKind.{compared_mixed, compared_real, compared_order, compared_reference, compared_wide}
 use Rattle.operators.proofs.comparisons.related.Goals as goal

@@ -1,4 +1,3 @@
-use borrow.Author.Rules.{rules}
 use borrow.Author.Tests.{ne_eqb}
 use Rattle.model.specs.Answer.{pick}
 use Rattle.model.specs.Operators.{relates_f}

@@ -1,4 +1,3 @@
-use borrow.Author.Rules.{rules}
 use native.Mathlib.Omega.{arith}
 use Rattle.operators.proofs.ByKind.{unary_reference, neg_real, conv_f_real, no_real_form}
 use Rattle.operators.proofs.operators.converted.Goals as goal

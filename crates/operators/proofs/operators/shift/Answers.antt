@@ -1,4 +1,3 @@
-use borrow.Author.Rules.{rules}
 use native.Mathlib.Omega.{arith}
 use Rattle.operators.proofs.ByKind.{narrow, wide, shift_wrong, shift_bits}
 use Rattle.operators.proofs.operators.shift.Goals as goal

@@ -1,6 +1,5 @@
-use borrow.Author.Rules.{rules}
 use mathlib.Core.Path.{sym, ap}
-use Rattle.operators.specs.Gives.{given, of_kind}
+use Rattle.operators.specs.Gives.{of_kind}
 use Rattle.integers.specs.Cells.{answer}
 use Rattle.operators.proofs.operators.tagged.Goals as goal
 

@@ -1,4 +1,3 @@
-use borrow.Author.Rules.{rules}
 use mathlib.Core.Path.{sym}
 use borrow.Author.Tests.{ne_eqb}
 use Rattle.model.specs.Answer.{pick}

@@ -3,7 +3,7 @@ use Rattle.passes.specs.Fused.{Cleared}
 use borrow.Author.Rules.{rules}
 use native.Mathlib.Omega.{arith}
 use mathlib.Core.Path.{◌≡◌, subst}
-use Prim.Native.Nat.{ℕ, ◌-◌, ◌≤◌}
+use Prim.Native.Nat.{ℕ}
 use Rattle.passes.proofs.pass.clear.Goals as goal
 
 pub loop-o-init : goal.loop-o-init

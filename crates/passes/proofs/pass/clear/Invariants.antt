@@ -1,9 +1,5 @@
-use Rattle.passes.proofs.Loops.{cleared_none, cleared_more}
 use Rattle.passes.specs.Fused.{Cleared}
-use borrow.Author.Rules.{rules}
-use native.Mathlib.Omega.{arith}
-use mathlib.Core.Path.{◌≡◌, subst}
-use Prim.Native.Nat.{ℕ, ◌-◌, ◌≤◌}
+use Prim.Native.Nat.{◌-◌, ◌≤◌}
 use Rattle.passes.proofs.pass.clear.Given as goal
 
 abbrev pub invariant-loop-o : goal.invariant-loop-o

@@ -1,18 +1,8 @@
-use Rattle.passes.proofs.Loops.{Searching, searching_start, searching_end, searching_fault, searching_next, reading_size, reading_some, reading_on}
+use Rattle.passes.proofs.Loops.{searching_start, searching_end, searching_fault, searching_next, reading_size, reading_some, reading_on}
 use Rattle.passes.proofs.Loops.{reading_next}
-use Rattle.visits.specs.Found.{Starts}
-use Rattle.passes.specs.Fused.{Rest, Reading}
-use Rattle.check_operands.specs.Held.{Held}
-use Rattle.model.specs.Check.{Site}
-use Rattle.model.specs.Code.{Ins}
-use Rattle.model.specs.Tables.{Method, Module}
 use lib.ListN.{length}
-use borrow.Author.Rules.{rules}
 use native.Mathlib.Omega.{arith}
-use mathlib.Core.List.{List}
-use mathlib.Core.Path.{◌≡◌, sym, ap, ◌∙◌}
-use Prim.Native.Nat.{ℕ, ◌-◌}
-use Rattle.check_operands.specs.Groups.{groups as group_table}
+use mathlib.Core.Path.{sym, ap, ◌∙◌}
 use Rattle.passes.proofs.pass.late.Goals as goal
 
 pub loop-at-init : goal.loop-at-init
@@ -26,8 +16,11 @@ bounds-starts-at c =
 pub known-i-requires : goal.known-i-requires
 known-i-requires c = let the-loop = c.loop-at in
     let the-loop-test = c.loop-at-test in
-    record { size_is = reading_size _ _ _ the-loop.invariant.0 the-loop-test.true _ c.wide.ensures.0; size_positive = reading_some _ _ _ the-loop.invariant.0 the-loop-test.true _
-          c.wide.ensures.0 }
+    record {
+      size_is = reading_size _ _ _ the-loop.invariant.0 the-loop-test.true _ c.wide.ensures.0;
+      size_positive = reading_some _ _ _ the-loop.invariant.0 the-loop-test.true _
+          c.wide.ensures.0;
+    }
 
 pub refused-requires : goal.refused-requires
 refused-requires c = record { row_below = c.requires.row_below; size_at_most = c.requires.length_at_most }

@@ -1,5 +1,4 @@
-use Rattle.passes.proofs.Loops.{Searching, searching_start, searching_end, searching_fault, searching_next, reading_size, reading_some, reading_on}
-use Rattle.passes.proofs.Loops.{reading_next}
+use Rattle.passes.proofs.Loops.{Searching}
 use Rattle.visits.specs.Found.{Starts}
 use Rattle.passes.specs.Fused.{Rest, Reading}
 use Rattle.check_operands.specs.Held.{Held}
@@ -7,10 +6,8 @@ use Rattle.model.specs.Check.{Site}
 use Rattle.model.specs.Code.{Ins}
 use Rattle.model.specs.Tables.{Method, Module}
 use lib.ListN.{length}
-use borrow.Author.Rules.{rules}
-use native.Mathlib.Omega.{arith}
 use mathlib.Core.List.{List}
-use mathlib.Core.Path.{◌≡◌, sym, ap, ◌∙◌}
+use mathlib.Core.Path.{◌≡◌}
 use Prim.Native.Nat.{ℕ, ◌-◌}
 use Rattle.check_operands.specs.Groups.{groups as group_table}
 use Rattle.passes.proofs.pass.late.Given as goal

@@ -1,20 +1,10 @@
-use Rattle.passes.proofs.Loops.{Going, going_start, going_end, after, going_operand, going_next, going_fault, reading_size, reading_some, reading_on}
+use Rattle.passes.proofs.Loops.{going_start, going_end, after, going_operand, going_next, going_fault, reading_size, reading_some, reading_on}
 use Rattle.passes.proofs.Loops.{reading_next}
-use Rattle.passes.specs.Fused.{Reading, nothing}
-use Rattle.visits.specs.Found.{Starts, Kept}
-use Rattle.check_operands.specs.Held.{Held}
-use Rattle.shapes.specs.Pool.{pool, Fine}
-use Rattle.model.specs.Check.{Site, decode_from}
-use Rattle.model.specs.Code.{Ins}
-use Rattle.model.specs.Tables.{Method, Module}
-use Rattle.model.specs.Answer.{ok}
+use Rattle.shapes.specs.Pool.{pool}
 use lib.ListN.{length}
 use borrow.Author.Rules.{rules}
 use native.Mathlib.Omega.{arith}
-use mathlib.Core.List.{List}
-use mathlib.Core.Path.{◌≡◌, ap}
-use Prim.Native.Nat.{◌+◌, ◌-◌, ◌≤◌}
-use Rattle.check_operands.specs.Groups.{groups as group_table}
+use mathlib.Core.Path.{ap}
 use Rattle.passes.proofs.pass.pass.Goals as goal
 
 pub loop-at-init : goal.loop-at-init
@@ -28,8 +18,11 @@ bounds-starts-at c =
 pub known-i-requires : goal.known-i-requires
 known-i-requires c = let the-loop = c.loop-at in
     let the-loop-test = c.loop-at-test in
-    record { size_is = reading_size _ _ _ the-loop.invariant.1 the-loop-test.true _ c.wide.ensures.0; size_positive = reading_some _ _ _ the-loop.invariant.1 the-loop-test.true _
-          c.wide.ensures.0 }
+    record {
+      size_is = reading_size _ _ _ the-loop.invariant.1 the-loop-test.true _ c.wide.ensures.0;
+      size_positive = reading_some _ _ _ the-loop.invariant.1 the-loop-test.true _
+          c.wide.ensures.0;
+    }
 
 pub visit-v-requires : goal.visit-v-requires
 visit-v-requires c = let start = c in

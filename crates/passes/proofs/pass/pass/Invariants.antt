@@ -1,5 +1,4 @@
-use Rattle.passes.proofs.Loops.{Going, going_start, going_end, after, going_operand, going_next, going_fault, reading_size, reading_some, reading_on}
-use Rattle.passes.proofs.Loops.{reading_next}
+use Rattle.passes.proofs.Loops.{Going}
 use Rattle.passes.specs.Fused.{Reading, nothing}
 use Rattle.visits.specs.Found.{Starts, Kept}
 use Rattle.check_operands.specs.Held.{Held}
@@ -9,10 +8,8 @@ use Rattle.model.specs.Code.{Ins}
 use Rattle.model.specs.Tables.{Method, Module}
 use Rattle.model.specs.Answer.{ok}
 use lib.ListN.{length}
-use borrow.Author.Rules.{rules}
-use native.Mathlib.Omega.{arith}
 use mathlib.Core.List.{List}
-use mathlib.Core.Path.{◌≡◌, ap}
+use mathlib.Core.Path.{◌≡◌}
 use Prim.Native.Nat.{◌+◌, ◌-◌, ◌≤◌}
 use Rattle.check_operands.specs.Groups.{groups as group_table}
 use Rattle.passes.proofs.pass.pass.Given as goal

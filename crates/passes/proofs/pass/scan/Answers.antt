@@ -1,10 +1,8 @@
-use Rattle.passes.proofs.Loops.{Scanning, scanning_start, scanning_next, scanning_end, scanning_stop}
+use Rattle.passes.proofs.Loops.{scanning_start, scanning_next, scanning_end, scanning_stop}
 use Rattle.visits.proofs.Branches.{nonzero}
 use Rattle.code.proofs.Sizes.{no_size}
-use lib.ListN.{length}
 use native.Mathlib.Omega.{arith}
 use mathlib.Core.Path.{sym, ◌∙◌}
-use Prim.Native.Nat.{◌-◌}
 use Rattle.passes.proofs.pass.scan.Goals as goal
 
 pub loop-at-init : goal.loop-at-init
@@ -20,9 +18,12 @@ returns-then-size-eq0 c = let start = c in
     let the-loop = c.loop-at in
     let the-loop-test = c.loop-at-test in
     let the-size-at = c.size_at-size in
-    record { starts_len = the-loop.invariant.size ∙ sym start.requires.starts_len; scanned = scanning_stop _ _ _ the-loop.invariant the-loop-test.true
+    record {
+      starts_len = the-loop.invariant.size ∙ sym start.requires.starts_len;
+      scanned = scanning_stop _ _ _ the-loop.invariant the-loop-test.true
           (no_size start.args.code.now the-loop.at (omega (arith, the-shared-slice-known.given the-loop.at))
-          (sym the-size-at.ensures.result_is ∙ c.if-size-eq0.true)) }
+          (sym the-size-at.ensures.result_is ∙ c.if-size-eq0.true));
+    }
 
 pub overflow_cast-starts : goal.overflow_cast-starts
 overflow_cast-starts c =

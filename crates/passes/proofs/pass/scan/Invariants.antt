@@ -1,9 +1,5 @@
-use Rattle.passes.proofs.Loops.{Scanning, scanning_start, scanning_next, scanning_end, scanning_stop}
-use Rattle.visits.proofs.Branches.{nonzero}
-use Rattle.code.proofs.Sizes.{no_size}
+use Rattle.passes.proofs.Loops.{Scanning}
 use lib.ListN.{length}
-use native.Mathlib.Omega.{arith}
-use mathlib.Core.Path.{sym, ◌∙◌}
 use Prim.Native.Nat.{◌-◌}
 use Rattle.passes.proofs.pass.scan.Given as goal
 

@@ -1,7 +1,6 @@
 use borrow.Author.Tests.{eq-eqb, ne_eqb}
 use Rattle.model.specs.Answer.{pick}
 use Rattle.state.specs.Order.{kind_or_none}
-use borrow.Author.Rules.{rules}
 use Rattle.prepare.proofs.kinds.kind_or_none.Goals as goal
 
 pub returns-then-byte-eq0 : goal.returns-then-byte-eq0

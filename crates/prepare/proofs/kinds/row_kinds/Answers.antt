@@ -1,9 +1,6 @@
-use Prim.Native.Nat.{◌-◌, ◌≤◌}
 use mathlib.Core.Path.{◌≡◌}
 use native.Mathlib.Omega.{arith}
-use Rattle.prepare.specs.Kinds.{RowKinds}
 use Rattle.prepare.proofs.Storing.{kinds_none, kinds_more}
-use borrow.Author.Rules.{rules}
 use Rattle.prepare.proofs.kinds.row_kinds.Goals as goal
 
 pub loop-i-init : goal.loop-i-init

@@ -1,10 +1,6 @@
-use Prim.Native.Nat.{ℕ, ◌-◌, ◌%◌, ◌≤◌}
 use mathlib.Core.Path.{◌≡◌}
-use mathlib.Core.List.{List}
 use native.Mathlib.Omega.{arith}
-use lib.ListN.{length, length-set}
-use Rattle.model.specs.Tables.{Field}
-use Rattle.prepare.specs.Told.{FieldsTold, LaidTo}
+use lib.ListN.{length-set}
 use Rattle.prepare.proofs.Turns.{zeros_long}
 use Rattle.prepare.proofs.Fields.{laid_first, lay_cell, lay_static}
 use Rattle.prepare.proofs.members.lay_fields.Goals as goal
@@ -35,5 +31,8 @@ loop-row-preserved c = (
 )
 
 pub returns : goal.returns
-returns c = record { cells_len = c.loop-row.invariant.1; laid_to = λ ps fs T e. let z : c.loop-row.row ≡ c.args.count = omega (arith, T.few) in rw z at
-      (c.loop-row.invariant.3 ps fs T e) }
+returns c = record {
+  cells_len = c.loop-row.invariant.1;
+  laid_to = λ ps fs T e. let z : c.loop-row.row ≡ c.args.count = omega (arith, T.few) in rw z at
+      (c.loop-row.invariant.3 ps fs T e);
+}

@@ -1,12 +1,9 @@
 use Prim.Native.Nat.{ℕ, ◌-◌, ◌%◌, ◌≤◌}
 use mathlib.Core.Path.{◌≡◌}
 use mathlib.Core.List.{List}
-use native.Mathlib.Omega.{arith}
-use lib.ListN.{length, length-set}
+use lib.ListN.{length}
 use Rattle.model.specs.Tables.{Field}
 use Rattle.prepare.specs.Told.{FieldsTold, LaidTo}
-use Rattle.prepare.proofs.Turns.{zeros_long}
-use Rattle.prepare.proofs.Fields.{laid_first, lay_cell, lay_static}
 use Rattle.prepare.proofs.members.lay_fields.Given as goal
 
 abbrev pub invariant-loop-row : goal.invariant-loop-row

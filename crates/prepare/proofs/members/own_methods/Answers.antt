@@ -1,10 +1,6 @@
-use Prim.Native.Nat.{◌≤◌, ◌<◌}
 use mathlib.Core.Path.{◌≡◌}
-use mathlib.Core.List.{List}
 use native.Mathlib.Omega.{arith}
-use lib.ListN.{length, length-set}
-use Rattle.model.specs.Tables.{Method}
-use Rattle.prepare.specs.Told.{MethodsTold, OwnFrom}
+use lib.ListN.{length-set}
 use Rattle.prepare.proofs.Turns.{zeros_long}
 use Rattle.prepare.proofs.Methods.{own_none, own_turn}
 use Rattle.prepare.proofs.members.own_methods.Goals as goal

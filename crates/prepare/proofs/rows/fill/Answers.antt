@@ -1,7 +1,5 @@
-use Prim.Native.Nat.{◌-◌, ◌≤◌}
 use mathlib.Core.Path.{◌≡◌}
 use native.Mathlib.Omega.{arith}
-use Rattle.prepare.specs.Rows.{Filled}
 use Rattle.prepare.proofs.Turns.{filled_none, filled_more}
 use borrow.Author.Rules.{rules}
 use Rattle.prepare.proofs.rows.fill.Goals as goal

@@ -1,10 +1,8 @@
-use Prim.Native.Nat.{ℕ, ◌+◌, ◌-◌, ◌*◌, ◌%◌, ◌≤◌, ◌<◌}
+use Prim.Native.Nat.{◌+◌, ◌*◌, ◌%◌, ◌≤◌}
 use mathlib.Core.Path.{◌≡◌, refl}
 use native.Mathlib.Omega.{arith}
 use lib.ListN.{get_or}
-use Rattle.prepare.specs.Rows.{Inherited}
 use Rattle.prepare.proofs.Turns.{row_ends, inherited_none, inherited_more}
-use borrow.Author.Rules.{rules}
 use Rattle.prepare.proofs.rows.inherit.Goals as goal
 
 pub loop-c-init : goal.loop-c-init

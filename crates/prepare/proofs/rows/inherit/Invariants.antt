@@ -1,10 +1,5 @@
-use Prim.Native.Nat.{ℕ, ◌+◌, ◌-◌, ◌*◌, ◌%◌, ◌≤◌, ◌<◌}
-use mathlib.Core.Path.{◌≡◌, refl}
-use native.Mathlib.Omega.{arith}
-use lib.ListN.{get_or}
+use Prim.Native.Nat.{◌+◌, ◌-◌, ◌%◌, ◌≤◌, ◌<◌}
 use Rattle.prepare.specs.Rows.{Inherited}
-use Rattle.prepare.proofs.Turns.{row_ends, inherited_none, inherited_more}
-use borrow.Author.Rules.{rules}
 use Rattle.prepare.proofs.rows.inherit.Given as goal
 
 abbrev pub invariant-loop-c : goal.invariant-loop-c

@@ -1,5 +1,4 @@
 use mathlib.Core.Path.{sym, ◌∙◌}
-use borrow.Author.Rules.{rules}
 use Rattle.prepare.proofs.Asking.{upto_same, upto_more}
 use Rattle.prepare.proofs.sets.asked.Goals as goal
 

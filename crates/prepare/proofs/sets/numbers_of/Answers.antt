@@ -1,5 +1,4 @@
 use Rattle.prepare.proofs.Asking.{numbers_are}
-use borrow.Author.Rules.{rules}
 use Rattle.prepare.proofs.sets.numbers_of.Goals as goal
 
 pub returns : goal.returns

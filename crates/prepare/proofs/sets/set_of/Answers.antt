@@ -1,11 +1,7 @@
-use Prim.Native.Nat.{ℕ, ◌+◌, ◌-◌, ◌≤◌, ◌<◌}
+use Prim.Native.Nat.{◌+◌}
 use mathlib.Core.Path.{◌≡◌}
-use mathlib.Core.List.{List}
 use native.Mathlib.Omega.{arith}
-use Rattle.ancestor.specs.Parents.{Parents}
-use Rattle.prepare.specs.Sets.{Unasked, Upto}
 use Rattle.prepare.proofs.Asking.{upto_first, upto_all}
-use borrow.Author.Rules.{rules}
 use Rattle.prepare.proofs.sets.set_of.Goals as goal
 
 pub loop-d-init : goal.loop-d-init

@@ -1,4 +1,3 @@
-use borrow.Author.Rules.{rules}
 use mathlib.Core.Path.{refl}
 use Rattle.runner.specs.Playing.{laid, Plays}
 use Rattle.runner.proofs.Beginning.{entry_there, row_ranges, initialisers_few, first_work, good_first, sets_first, seen_first}

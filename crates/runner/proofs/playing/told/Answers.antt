@@ -1,4 +1,3 @@
-use borrow.Author.Rules.{rules}
 use Rattle.runner.proofs.Telling.{told_over, told_halted}
 use Rattle.runner.proofs.playing.told.Goals as goal
 

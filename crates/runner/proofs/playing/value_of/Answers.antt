@@ -1,5 +1,4 @@
 use Rattle.runner.proofs.Values.{null_value, object_value, int32_value, int64_value, real_value}
-use borrow.Author.Rules.{rules}
 use Rattle.runner.proofs.playing.value_of.Goals as goal
 
 pub returns-then-bits-eq0 : goal.returns-then-bits-eq0

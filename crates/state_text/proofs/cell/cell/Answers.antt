@@ -1,5 +1,4 @@
 -- `cell` meets its contract: 1, 2 and 3 are kinds of numbers.
-use borrow.Author.Rules.{rules}
 use native.Mathlib.Omega.{arith}
 use mathlib.Core.Path.{sym, ap}
 use Rattle.model.specs.Replay.{cell_text}

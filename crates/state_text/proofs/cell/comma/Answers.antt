@@ -1,5 +1,4 @@
 -- `comma` meets its contract: nothing, or one byte.
-use borrow.Author.Rules.{rules}
 use Rattle.line.proofs.Appending.{same, nothing}
 use Rattle.state_text.proofs.Reading.{first_none, comma_one}
 use Rattle.state_text.proofs.cell.comma.Goals as goal

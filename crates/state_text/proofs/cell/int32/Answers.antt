@@ -1,5 +1,4 @@
 -- `int32` meets its contract: the letter, then the low 32 bits with their sign.
-use borrow.Author.Rules.{rules}
 use Rattle.model.specs.Replay.{cell_text}
 use Rattle.state.specs.View.{value_by}
 use Rattle.line.proofs.Appending.{then}

@@ -1,5 +1,4 @@
 -- `int64` meets its contract: the letter, then the bits with their sign.
-use borrow.Author.Rules.{rules}
 use Prim.Native.Nat.{ℕ}
 use mathlib.Core.Path.{◌≡◌, ap}
 use mathlib.Core.List.{◌∷◌}

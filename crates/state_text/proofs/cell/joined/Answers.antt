@@ -1,5 +1,4 @@
 -- `joined` meets its contract: the comma, then the cell.
-use borrow.Author.Rules.{rules}
 use Rattle.line.proofs.Appending.{then}
 use Rattle.state_text.proofs.cell.joined.Goals as goal
 

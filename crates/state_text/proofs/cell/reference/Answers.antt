@@ -1,5 +1,4 @@
 -- `reference` meets its contract: null is 0.
-use borrow.Author.Rules.{rules}
 use mathlib.Core.Path.{sym}
 use Rattle.line.proofs.Appending.{same, then}
 use Rattle.state_text.proofs.Joining.{null_text, object_text}

@@ -1,11 +1,8 @@
 -- `arguments` meets its contract. What is appended so far is the text of the first i.
 use borrow.Author.Rules.{rules}
-use mathlib.Core.Path.{◌≡◌, refl, ◌∙◌}
-use Prim.Native.Nat.{◌-◌, ◌≤◌}
-use lib.ListN.{length}
+use mathlib.Core.Path.{refl, ◌∙◌}
 use Rattle.model.specs.Replay.{cell_texts, commas}
 use Rattle.state.specs.View.{span}
-use Rattle.line.specs.Append.{Appended}
 use Rattle.line.proofs.Appending.{nothing}
 use Rattle.state_text.specs.Texts.{argument_in}
 use Rattle.state_text.proofs.Joining.{cell_next, all_of}

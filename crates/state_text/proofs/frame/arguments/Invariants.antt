@@ -1,13 +1,10 @@
-use borrow.Author.Rules.{rules}
-use mathlib.Core.Path.{◌≡◌, refl, ◌∙◌}
+use mathlib.Core.Path.{◌≡◌}
 use Prim.Native.Nat.{◌-◌, ◌≤◌}
 use lib.ListN.{length}
-use Rattle.model.specs.Replay.{cell_texts, commas}
+use Rattle.model.specs.Replay.{cell_texts}
 use Rattle.state.specs.View.{span}
 use Rattle.line.specs.Append.{Appended}
-use Rattle.line.proofs.Appending.{nothing}
 use Rattle.state_text.specs.Texts.{argument_in}
-use Rattle.state_text.proofs.Joining.{cell_next, all_of}
 use Rattle.state_text.proofs.frame.arguments.Given as goal
 
 abbrev pub invariant-loop-i : goal.invariant-loop-i

@@ -1,5 +1,4 @@
 -- `count_of` meets its contract: a byte of the method's row.
-use borrow.Author.Rules.{rules}
 use mathlib.Core.Path.{◌∙◌}
 use Rattle.state_text.proofs.frame.count_of.Goals as goal
 

@@ -1,12 +1,9 @@
 -- `frames` meets its contract. What is appended so far is the text of the frames below.
 use borrow.Author.Rules.{rules}
-use mathlib.Core.Path.{◌≡◌, refl, ◌∙◌}
-use Prim.Native.Nat.{◌-◌, ◌≤◌}
+use mathlib.Core.Path.{refl, ◌∙◌}
 use mathlib.Core.List.{[]}
-use lib.ListN.{length}
 use Rattle.model.specs.Replay.{frames_text}
 use Rattle.state.specs.View.{down}
-use Rattle.line.specs.Append.{Appended}
 use Rattle.line.proofs.Appending.{nothing}
 use Rattle.state_text.specs.Texts.{one_frame, frames_in}
 use Rattle.state_text.proofs.Joining.{frame_more, all_of}

@@ -1,14 +1,11 @@
-use borrow.Author.Rules.{rules}
-use mathlib.Core.Path.{◌≡◌, refl, ◌∙◌}
+use mathlib.Core.Path.{◌≡◌}
 use Prim.Native.Nat.{◌-◌, ◌≤◌}
 use mathlib.Core.List.{[]}
 use lib.ListN.{length}
 use Rattle.model.specs.Replay.{frames_text}
 use Rattle.state.specs.View.{down}
 use Rattle.line.specs.Append.{Appended}
-use Rattle.line.proofs.Appending.{nothing}
-use Rattle.state_text.specs.Texts.{one_frame, frames_in}
-use Rattle.state_text.proofs.Joining.{frame_more, all_of}
+use Rattle.state_text.specs.Texts.{one_frame}
 use Rattle.state_text.proofs.frame.frames.Given as goal
 
 abbrev pub invariant-loop-i : goal.invariant-loop-i

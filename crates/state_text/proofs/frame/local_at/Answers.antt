@@ -1,5 +1,4 @@
 -- `local_at` meets its contract: the locals follow 8 arguments.
-use borrow.Author.Rules.{rules}
 use mathlib.Core.Path.{sym, ◌∙◌}
 use Rattle.state_text.proofs.Reading.{part_in, part_out}
 use Rattle.state_text.proofs.frame.local_at.Goals as goal

@@ -1,5 +1,4 @@
 -- `local_type` meets its contract: the types of locals follow those of 8 arguments.
-use borrow.Author.Rules.{rules}
 use mathlib.Core.Path.{sym, ◌∙◌}
 use Rattle.state_text.specs.Texts.{local_type}
 use Rattle.state_text.proofs.Reading.{part_in, part_out}

@@ -1,5 +1,4 @@
 -- `one` meets its contract: its parts in their order.
-use borrow.Author.Rules.{rules}
 use mathlib.Core.Path.{ap}
 use Rattle.model.specs.Replay.{cell_texts}
 use Rattle.state.specs.View.{span}

@@ -1,5 +1,4 @@
 -- `opened` meets its contract: five appends.
-use borrow.Author.Rules.{rules}
 use mathlib.Core.List.{append_assoc}
 use Rattle.line.proofs.Appending.{same, then}
 use Rattle.state_text.proofs.frame.opened.Goals as goal

@@ -1,5 +1,4 @@
 -- `stack_at` meets its contract: the stack follows 24 variables.
-use borrow.Author.Rules.{rules}
 use mathlib.Core.Path.{sym, ◌∙◌}
 use Rattle.state_text.proofs.Reading.{part_in, part_out}
 use Rattle.state_text.proofs.frame.stack_at.Goals as goal

@@ -1,5 +1,4 @@
 -- `variables` meets its contract: arguments, semicolon, locals, semicolon.
-use borrow.Author.Rules.{rules}
 use mathlib.Core.Path.{ap}
 use mathlib.Core.List.{append_assoc}
 use Rattle.model.specs.Replay.{cell_texts}

@@ -1,5 +1,4 @@
 -- `bits_at` meets its contract: a cell of a block, or 0.
-use borrow.Author.Rules.{rules}
 use mathlib.Core.Path.{sym}
 use Rattle.state_text.proofs.Reading.{cell_in_lem, cell_past, cell_out}
 use Rattle.state_text.proofs.members.bits_at.Goals as goal

@@ -1,5 +1,4 @@
 -- `mark` meets its contract: nothing, or comma and row.
-use borrow.Author.Rules.{rules}
 use Rattle.line.proofs.Appending.{same, nothing, then}
 use Rattle.state_text.proofs.Reading.{said, unsaid}
 use Rattle.state_text.proofs.members.mark.Goals as goal

@@ -1,12 +1,9 @@
 -- `marks` meets its contract. What is appended so far is the text of the rows below, and `first` says whether it is none.
 use borrow.Author.Rules.{rules}
-use mathlib.Core.Path.{◌≡◌, refl, ◌∙◌}
-use Prim.Native.Nat.{◌-◌, ◌≤◌}
-use lib.ListN.{length}
+use mathlib.Core.Path.{refl, ◌∙◌}
 use Rattle.model.specs.Answer.{is_nil}
 use Rattle.model.specs.Turn.{decimal}
 use Rattle.model.specs.Replay.{commas}
-use Rattle.line.specs.Append.{Appended}
 use Rattle.line.proofs.Appending.{nothing}
 use Rattle.state_text.specs.Texts.{up_to, mark_text, mark_row}
 use Rattle.state_text.proofs.Joining.{nil_more, text_more, all_of}

@@ -1,15 +1,10 @@
-use borrow.Author.Rules.{rules}
-use mathlib.Core.Path.{◌≡◌, refl, ◌∙◌}
+use mathlib.Core.Path.{◌≡◌}
 use Prim.Native.Nat.{◌-◌, ◌≤◌}
 use lib.ListN.{length}
 use Rattle.model.specs.Answer.{is_nil}
-use Rattle.model.specs.Turn.{decimal}
 use Rattle.model.specs.Replay.{commas}
 use Rattle.line.specs.Append.{Appended}
-use Rattle.line.proofs.Appending.{nothing}
-use Rattle.state_text.specs.Texts.{up_to, mark_text, mark_row}
-use Rattle.state_text.proofs.Joining.{nil_more, text_more, all_of}
-use Rattle.state_text.proofs.Reading.{mark_said}
+use Rattle.state_text.specs.Texts.{up_to, mark_row}
 use Rattle.state_text.proofs.members.marks.Given as goal
 
 abbrev pub invariant-loop-row : goal.invariant-loop-row

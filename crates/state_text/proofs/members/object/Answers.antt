@@ -1,5 +1,4 @@
 -- `object` meets its contract: nothing for class 0, else five appends.
-use borrow.Author.Rules.{rules}
 use mathlib.Core.List.{append_assoc}
 use Rattle.line.proofs.Appending.{same, nothing, then}
 use Rattle.state_text.proofs.Reading.{free_text, place_text}

@@ -1,12 +1,9 @@
 -- `objects` meets its contract. What is appended so far is the text of the places below.
 use borrow.Author.Rules.{rules}
-use mathlib.Core.Path.{◌≡◌, refl, ap, ◌∙◌}
-use Prim.Native.Nat.{◌-◌, ◌≤◌}
+use mathlib.Core.Path.{refl, ap, ◌∙◌}
 use mathlib.Core.List.{[], ◌∷◌}
-use lib.ListN.{length}
 use Rattle.model.specs.Replay.{heap_text}
 use Rattle.state.specs.View.{span}
-use Rattle.line.specs.Append.{Appended}
 use Rattle.line.proofs.Appending.{same, nothing}
 use Rattle.state_text.specs.Texts.{place_of, place_in, heap_in}
 use Rattle.state_text.proofs.Joining.{place_more, all_of}

@@ -1,14 +1,10 @@
-use borrow.Author.Rules.{rules}
-use mathlib.Core.Path.{◌≡◌, refl, ap, ◌∙◌}
+use mathlib.Core.Path.{◌≡◌}
 use Prim.Native.Nat.{◌-◌, ◌≤◌}
-use mathlib.Core.List.{[], ◌∷◌}
 use lib.ListN.{length}
 use Rattle.model.specs.Replay.{heap_text}
 use Rattle.state.specs.View.{span}
 use Rattle.line.specs.Append.{Appended}
-use Rattle.line.proofs.Appending.{same, nothing}
-use Rattle.state_text.specs.Texts.{place_of, place_in, heap_in}
-use Rattle.state_text.proofs.Joining.{place_more, all_of}
+use Rattle.state_text.specs.Texts.{place_in}
 use Rattle.state_text.proofs.members.objects.Given as goal
 
 abbrev pub invariant-loop-place : goal.invariant-loop-place

@@ -1,5 +1,4 @@
 -- `one_more` meets its contract: one more unless there is no type.
-use borrow.Author.Rules.{rules}
 use Rattle.state_text.proofs.Sizes.{no_more, counted_one}
 use Rattle.state_text.proofs.members.one_more.Goals as goal
 

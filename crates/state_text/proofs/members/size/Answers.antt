@@ -1,7 +1,6 @@
 -- `size` meets its contract. What is counted so far are the types of the cells below.
 use borrow.Author.Rules.{rules}
-use mathlib.Core.Path.{◌≡◌, refl}
-use Prim.Native.Nat.{◌-◌, ◌≤◌}
+use mathlib.Core.Path.{refl}
 use Rattle.state_text.specs.Texts.{size_of}
 use Rattle.state_text.proofs.Sizes.{counted_more, counted_few, all_counted}
 use Rattle.state_text.proofs.members.size.Goals as goal

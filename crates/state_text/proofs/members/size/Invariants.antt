@@ -1,8 +1,6 @@
-use borrow.Author.Rules.{rules}
-use mathlib.Core.Path.{◌≡◌, refl}
+use mathlib.Core.Path.{◌≡◌}
 use Prim.Native.Nat.{◌-◌, ◌≤◌}
 use Rattle.state_text.specs.Texts.{size_of}
-use Rattle.state_text.proofs.Sizes.{counted_more, counted_few, all_counted}
 use Rattle.state_text.proofs.members.size.Given as goal
 
 abbrev pub invariant-loop-i : goal.invariant-loop-i

@@ -1,5 +1,4 @@
 -- `static_at` meets its contract: a number, or 0.
-use borrow.Author.Rules.{rules}
 use mathlib.Core.Path.{sym}
 use Rattle.state_text.proofs.Reading.{one_in, one_out}
 use Rattle.state_text.proofs.members.static_at.Goals as goal

@@ -1,5 +1,4 @@
 -- `static_field` meets its contract: nothing, or comma, row, colon and cell.
-use borrow.Author.Rules.{rules}
 use mathlib.Core.List.{append_assoc}
 use Rattle.line.proofs.Appending.{same, nothing, then}
 use Rattle.state_text.proofs.Reading.{said, unsaid}

@@ -1,13 +1,10 @@
 -- `statics` meets its contract. What is appended so far is the text of the rows below, and `first` says whether it is none.
 use borrow.Author.Rules.{rules}
-use mathlib.Core.Path.{◌≡◌, refl, ap, ◌∙◌}
-use Prim.Native.Nat.{◌-◌, ◌≤◌}
-use lib.ListN.{length}
+use mathlib.Core.Path.{refl, ap, ◌∙◌}
 use Rattle.model.specs.Answer.{is_nil}
 use mathlib.Core.List.{◌∷◌, ◌++◌}
 use Rattle.model.specs.Turn.{decimal}
 use Rattle.model.specs.Replay.{cell_text, commas}
-use Rattle.line.specs.Append.{Appended}
 use Rattle.line.proofs.Appending.{nothing}
 use Rattle.state_text.specs.Texts.{one_of, value_in, up_to, static_text, static_at}
 use Rattle.state_text.proofs.Joining.{nil_more, text_more, all_of}

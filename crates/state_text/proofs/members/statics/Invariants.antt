@@ -1,16 +1,10 @@
-use borrow.Author.Rules.{rules}
-use mathlib.Core.Path.{◌≡◌, refl, ap, ◌∙◌}
+use mathlib.Core.Path.{◌≡◌}
 use Prim.Native.Nat.{◌-◌, ◌≤◌}
 use lib.ListN.{length}
 use Rattle.model.specs.Answer.{is_nil}
-use mathlib.Core.List.{◌∷◌, ◌++◌}
-use Rattle.model.specs.Turn.{decimal}
-use Rattle.model.specs.Replay.{cell_text, commas}
+use Rattle.model.specs.Replay.{commas}
 use Rattle.line.specs.Append.{Appended}
-use Rattle.line.proofs.Appending.{nothing}
-use Rattle.state_text.specs.Texts.{one_of, value_in, up_to, static_text, static_at}
-use Rattle.state_text.proofs.Joining.{nil_more, text_more, all_of}
-use Rattle.state_text.proofs.Reading.{static_said}
+use Rattle.state_text.specs.Texts.{up_to, static_at}
 use Rattle.state_text.proofs.members.statics.Given as goal
 
 abbrev pub invariant-loop-row : goal.invariant-loop-row

@@ -1,5 +1,4 @@
 -- `heap_part` meets its contract: the word, then the text.
-use borrow.Author.Rules.{rules}
 use Rattle.model.specs.Replay.{word_heap}
 use Rattle.line.proofs.Appending.{then}
 use Rattle.state_text.proofs.whole.heap_part.Goals as goal

@@ -1,5 +1,4 @@
 -- `marks_part` meets its contract: the word, then the text.
-use borrow.Author.Rules.{rules}
 use Rattle.model.specs.Replay.{word_marks}
 use Rattle.line.proofs.Appending.{then}
 use Rattle.state_text.proofs.whole.marks_part.Goals as goal

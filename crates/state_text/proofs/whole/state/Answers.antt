@@ -1,5 +1,4 @@
 -- `state` meets its contract: the four parts in their order.
-use borrow.Author.Rules.{rules}
 use Rattle.model.specs.Replay.{word_frames}
 use Rattle.state.specs.declared.State.{State}
 use Rattle.line.proofs.Appending.{then}

@@ -1,5 +1,4 @@
 -- `statics_part` meets its contract: the word, then the text.
-use borrow.Author.Rules.{rules}
 use Rattle.model.specs.Replay.{word_statics}
 use Rattle.line.proofs.Appending.{then}
 use Rattle.state_text.proofs.whole.statics_part.Goals as goal

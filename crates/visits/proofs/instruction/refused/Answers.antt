@@ -7,7 +7,6 @@ use lib.Dec.{eqb}
 use mathlib.Core.Bool.{true, false}
 use mathlib.Core.Option.{Option}
 use mathlib.Core.Path.{◌≡◌, refl, sym, ap, ◌∙◌}
-use borrow.Author.Rules.{rules}
 use Rattle.visits.proofs.instruction.refused.Goals as goal
 
 pub returns-then-g-ge-BR : goal.returns-then-g-ge-BR

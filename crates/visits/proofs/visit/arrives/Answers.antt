@@ -1,6 +1,5 @@
 use Rattle.visits.proofs.Arrivals.{went_on, went_off}
 use mathlib.Core.Path.{refl}
-use borrow.Author.Rules.{rules}
 use Rattle.visits.proofs.visit.arrives.Goals as goal
 
 pub returns-then-meets : goal.returns-then-meets

@@ -18,8 +18,11 @@ unfolding target_of
 returns-then-starts-t-ne0 c = let start = c in
     let the-target-of = c.target_of in
     let the-if1 = c.if-size-t in
-    record { result_at_most = search rules; lands = λ all b m. land_here all start.args.starts.now _ _ _ (sym the-target-of.ensures ∙ ap target_of c.in-At.is)
-          the-if1.false b m c.if-starts-t-ne0.true }
+    record {
+      result_at_most = search rules;
+      lands = λ all b m. land_here all start.args.starts.now _ _ _ (sym the-target-of.ensures ∙ ap target_of c.in-At.is)
+          the-if1.false b m c.if-starts-t-ne0.true;
+    }
 
 pub returns-in-Before : goal.returns-in-Before
 unfolding target_of
@@ -30,5 +33,8 @@ unfolding target_of
 returns-else-starts-t-ne0 c = let start = c in
     let the-target-of = c.target_of in
     let the-if1 = c.if-size-t in
-    record { result_at_most = search rules; lands = λ all b m. land_inside all start.args.starts.now _ _ _ (sym the-target-of.ensures ∙ ap target_of c.in-At.is)
-          the-if1.false b m c.if-starts-t-ne0.false }
+    record {
+      result_at_most = search rules;
+      lands = λ all b m. land_inside all start.args.starts.now _ _ _ (sym the-target-of.ensures ∙ ap target_of c.in-At.is)
+          the-if1.false b m c.if-starts-t-ne0.false;
+    }

@@ -1,6 +1,5 @@
 use Rattle.visits.proofs.Arrivals.{first_arrival, later_arrival, stood}
 use Rattle.shapes.specs.Pool.{pool}
-use borrow.Author.Rules.{rules}
 use Rattle.visits.proofs.visit.meets.Goals as goal
 
 pub returns-then-f-eq0 : goal.returns-then-f-eq0

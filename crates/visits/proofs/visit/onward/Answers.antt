@@ -1,5 +1,4 @@
 use Rattle.visits.proofs.Arrivals.{past_end, next_met, next_other}
-use borrow.Author.Rules.{rules}
 use Rattle.visits.proofs.visit.onward.Goals as goal
 
 pub returns-then-size-next : goal.returns-then-size-next

@@ -1,6 +1,5 @@
 use Rattle.visits.proofs.Branches.{target_near, target_far}
 use mathlib.Core.Path.{◌∙◌}
-use borrow.Author.Rules.{rules}
 use Rattle.visits.proofs.visit.target_of.Goals as goal
 
 pub returns-then-op-lt-FIRST_FAR : goal.returns-then-op-lt-FIRST_FAR

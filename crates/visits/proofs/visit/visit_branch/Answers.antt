@@ -2,9 +2,8 @@ use Rattle.visits.proofs.Arrivals.{by_none, by_some, lost, landed, passed, branc
 use Rattle.visits.proofs.Arrivals.{branch_other, falls_not, falls_on}
 use Rattle.model.specs.Check.{jump_effect}
 use Rattle.check_operands.specs.Groups.{jump_by}
-use Rattle.shapes.specs.Pool.{Pool, pool}
+use Rattle.shapes.specs.Pool.{pool}
 use mathlib.Core.Path.{refl}
-use borrow.Author.Rules.{rules}
 use Rattle.visits.proofs.visit.visit_branch.Goals as goal
 
 pub returns-then-t-ge-NO_TARGET : goal.returns-then-t-ge-NO_TARGET
