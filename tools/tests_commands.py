@@ -321,6 +321,8 @@ FALSE_RT = """#!/bin/sh
 {
     echo "rt: chose --jobs 2 for model"
     echo "logic=proved functions=0"
+    echo "rt: chose --jobs 2 for code"
+    echo "logic=proved functions=25"
     echo "rt: chose --jobs 2 for turn"
     [ ! -e ../../refuse ] || { echo "logic=not-proved"; exit 1; }
     echo "logic=proved functions=2"
@@ -354,7 +356,8 @@ def test_proved(tally):
         (folder / "refuse").unlink()
         end = turn()
         ends(tally, end, 0, "the first run", b"0 1 3 4 5\n")
-        for words in (b"proving crate 1 of 3, model; 0 min ", b"proving crate 3 of 3, turn;", b"turn is proved; it took"):
+        for words in (b"proving crate 1 of 3, model; 0 min ", b"proving crate 2 of 3, code;", b"proving crate 3 of 3, turn;",
+                      b"turn is proved; it took"):
             tally.holds(words in end.stderr, f"progress: {words}; {end.stderr}")
         end = turn()
         tally.holds(end.stdout == b"0 1 3 4 5\n" and not end.stderr, "the second run proves nothing")
