@@ -10,7 +10,8 @@ use streams::fill;
 
 // Reads the bytes of a case from one place to another; false where the input ends before, or where the buffer does.
 fn more<R: Read>(input: &mut R, case: &mut [u8], from: usize, to: usize) -> io::Result<bool>
-    ensures { IfOk result (λ there. IsTrue there → (from ≤ to) × (to ≤ length case.new)) }
+    ensures size { length case.new ≡ length case.old }
+    ensures there { IfOk result (λ there. IsTrue there → (from ≤ to) × (to ≤ length case.new)) }
 {
     if case.len() < to {
         return Ok(false);
@@ -23,7 +24,8 @@ fn more<R: Read>(input: &mut R, case: &mut [u8], from: usize, to: usize) -> io::
 
 // Reads a case to the start of the buffer, and gives how long it is, 0 where it is cut off. What is there announces what follows, until it is a case.
 pub fn read<R: Read>(input: &mut R, case: &mut [u8]) -> io::Result<usize>
-    ensures { IfOk result (λ n. (n ≡ 0) ⊎ Whole (take n case.new)) }
+    ensures size { length case.new ≡ length case.old }
+    ensures whole { IfOk result (λ n. (n ≡ 0) ⊎ Whole (take n case.new)) }
 {
     let mut have = 0;
     let mut all = announced(part(case, 0, have));

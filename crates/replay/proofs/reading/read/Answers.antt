@@ -13,7 +13,7 @@ pub loop-have-preserved : goal.loop-have-preserved
 unfolding part_of
 loop-have-preserved g c = (search rules, search rules, c.announced-all-in-loop-have.ensures ∙ ap announced_by c.part-in-loop-have.ensures)
 
-pub returns : goal.returns
-returns g c =
+pub returns-clause-whole : goal.returns-clause-whole
+returns-clause-whole g c =
     let i = c.loop-have.invariant in
     inr (whole _ (sym i.2 ∙ sym c.loop-have-test.false ∙ sym (length-take-le _ _ i.1)))
