@@ -15,7 +15,7 @@ ghost use Rattle.host.specs.Hosting.{enough_to_check, enough_to_run, enough_to_t
 
 use answers::{ANSWER, FAULT, lay_answer, lay_fault};
 use loitsupar::checking::check;
-use loitsupar::running::run;
+use loitsupar::lent::run;
 use loitsupar::telling::tell;
 use parts::STATE;
 use shape::{SHAPE, lay_shape};
@@ -63,17 +63,27 @@ pub extern "C" fn loitsupar_run(
     if state.len() < STATE {
         return TOO_FEW;
     }
-    let e = run(tables, code, arguments, budget);
-    let end = e.end;
-    let value = e.value;
-    lay_answer(answer, end, e.steps, value);
-    let s = e.state;
-    let cells = s.cells;
-    let kinds = s.kinds;
-    let statics = s.statics;
-    let marks = s.marks;
-    let classes = s.classes;
-    let heap = s.heap;
+    let mut cells = [0u64; 2048];
+    let mut kinds = [0u8; 2048];
+    let mut marks = [0u8; 33];
+    let mut classes = [0u8; 256];
+    let mut heap = [0u64; 2048];
+    let mut statics = [0u64; 64];
+    let s = run(
+        tables,
+        code,
+        arguments,
+        budget,
+        &mut cells,
+        &mut kinds,
+        &mut marks,
+        &mut classes,
+        &mut heap,
+        &mut statics,
+    );
+    let end = s.end;
+    let value = s.value;
+    lay_answer(answer, end, s.steps, value);
     lay_state(
         state, s.live, &cells, &kinds, &statics, &marks, &classes, &heap,
     );

@@ -1,6 +1,7 @@
-// The public functions over house tables and code; none has a `requires`.
+// The public functions over house tables and code. None has a `requires`, but that the arrays lent to a run are 0.
 #![tactic(auto)]
 
 pub mod checking; // the check of a module, which loads it first
+pub mod lent; // the run of a module, whose state is left in arrays that are lent
 pub mod running; // the run of a module, which loads it first
 pub mod telling; // the shape that the check found before an instruction

@@ -2,40 +2,30 @@
 ghost use Rattle.model.specs.Run.{run as run_of};
 ghost use Rattle.runner.specs.Answers.{Answers};
 
-use loader::load_into;
-use runner::{Ended, refused};
+use crate::lent;
+use runner::{Ended, with_state};
 
 // Loads the tables and runs the entry with arguments, int64 as bits, and a budget of steps.
 pub fn run(tables: &[u8], code: &[u8], arguments: &[u64], budget: u64) -> Ended
     ensures { Answers (run_of tables.now code.now arguments.now budget) result }
 {
-    let mut parents = [0u8; 33];
-    let mut initialisers = [0u8; 33];
-    let mut fields = [0u8; 516];
-    let mut methods = [0u8; 4128];
-    let mut parts = [0usize; 258];
-    let l = load_into(
+    let mut cells = [0u64; 2048];
+    let mut kinds = [0u8; 2048];
+    let mut marks = [0u8; 33];
+    let mut classes = [0u8; 256];
+    let mut heap = [0u64; 2048];
+    let mut statics = [0u64; 64];
+    let s = lent::run(
         tables,
-        code,
-        &mut parents,
-        &mut initialisers,
-        &mut fields,
-        &mut methods,
-        &mut parts,
-    );
-    let fault = l.fault;
-    if fault.number != 0 {
-        return refused(fault.number, fault.offset);
-    }
-    runner::run(
-        l.counts,
-        &parents,
-        &initialisers,
-        &fields,
-        &methods,
-        &parts,
         code,
         arguments,
         budget,
-    )
+        &mut cells,
+        &mut kinds,
+        &mut marks,
+        &mut classes,
+        &mut heap,
+        &mut statics,
+    );
+    with_state(s, &cells, &kinds, &marks, &classes, &heap, &statics)
 }

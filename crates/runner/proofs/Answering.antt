@@ -5,14 +5,18 @@ use mathlib.Core.Bool.{Bool, true, false, not}
 use mathlib.Core.Option.{Option, none, some}
 use mathlib.Core.List.{List}
 use borrow.Author.Tests.{le-leb, lt-leb, not-true, not-false}
-use Rattle.model.specs.Answer.{◌>>=◌, guard, need, pick, only_if}
+use Rattle.model.specs.Answer.{Answer, ◌>>=◌, guard, need, pick, only_if}
 use Rattle.model.specs.Tables.{Module, method_at}
-use Rattle.model.specs.Loading.{refusal}
+use Rattle.model.specs.Loading.{Refusal, refusal}
 use Rattle.model.specs.State.{Value}
 use Rattle.model.specs.Step.{lowest_free}
+use Rattle.model.specs.Run as Run
 use Rattle.model.specs.Run.{admit, first, steps, run_module}
+use Rattle.state.specs.Layout.{no_state}
 use Rattle.runner.specs.declared.Ended.{Ended}
+use Rattle.runner.specs.declared.playing.Summary.{Summary}
 use Rattle.runner.specs.Answers.{refused_by, Tells, Answers}
+use Rattle.runner.specs.Playing.{ended_with, not_run_by, AllZero}
 
 module _ {A : Type 0} {o : Option A} (b : Bool) (a : A) (e : o ≡ only_if b (some a)) where
   pub turned_down : not b ≡ true → o ≡ none
@@ -28,6 +32,11 @@ pub done : {A : Type 0} {a : A} (b : Bool) (x y : A) → a ≡ pick b x y → no
 unfolding pick
 done b x y e n = e ∙ ap (λ (t : Bool). pick t x y) (not-false b n)
 
+-- what was left on a refusal
+pub undone : {A : Type 0} {a : A} (b : Bool) (x y : A) → a ≡ pick b x y → not b ≡ true → a ≡ y
+unfolding pick
+undone b x y e n = e ∙ ap (λ (t : Bool). pick t x y) (not-true b n)
+
 module _ (M : Module) (given : List ℕ) (budget : ℕ) (r : Ended) where
   pub not_admitted : admit (method_at M.methods M.entry).params given ≡ none
       → r ≡ refused_by (record { number = 21; place = 0 }) → Answers (run_module M given budget) r
@@ -42,3 +51,13 @@ module _ (M : Module) (given : List ℕ) (budget : ℕ) (r : Ended) where
     pub was_run : budget ≤ 1000000 → {x : Ended} → r ≡ x → Tells (steps lowest_free M budget 0 (first M vs)) x → Answers (run_module M given budget) r
     unfolding Answers run_module need guard ◌>>=◌
     was_run b {x} e h = rw (admitted, le-leb budget 1000000 b) (subst (Tells (steps lowest_free M budget 0 (first M vs))) (sym e) h)
+
+-- a refusal, and arrays in which all is 0
+pub all_zero : {s : Summary} (f : Refusal) {cells kinds marks classes heap statics : List ℕ} → s ≡ not_run_by f
+    → AllZero cells kinds marks classes heap statics → ended_with s cells kinds marks classes heap statics ≡ refused_by f
+unfolding not_run_by refused_by no_state
+all_zero f e z = rw (e, z.no_cells, z.no_kinds, z.no_marks, z.no_classes, z.no_heap, z.no_statics)
+
+-- an answer handed on as it is
+pub the_same : (a : Answer Refusal Run.Ended) {r x : Ended} → r ≡ x → Answers a x → Answers a r
+the_same a e h = subst (Answers a) (sym e) h

@@ -10,9 +10,10 @@ ghost use Rattle.loaded.specs.Holds.{Holds};
 ghost use Rattle.state.specs.Order.{Fine};
 ghost use Rattle.between_steps.specs.Running.{lent_loaded};
 ghost use Rattle.runner.specs.Answers.{Loads, Answers, refused_by};
-ghost use Rattle.runner.specs.Playing.{ended_with};
+ghost use Rattle.runner.specs.Playing.{ended_with, not_run_by, AllZero};
 
-use crate::playing::{Summary, played};
+pub use crate::playing::Summary;
+use crate::playing::played;
 use begin_end::admission::admit;
 use line::line::Value;
 use loaded::{Counts, Fault};
@@ -58,8 +59,24 @@ pub fn refused(number: u8, place: usize) -> Ended
     }
 }
 
+// What is told of a refusal, where the arrays of the state are lent: its number and place, and all else is 0.
+pub fn not_run(number: u8, place: usize) -> Summary
+    ensures { result ≡ not_run_by (record { number = number; place = place }) }
+{
+    Summary {
+        end: Fault {
+            number: number,
+            method: 0,
+            offset: place,
+        },
+        steps: 0,
+        value: Value::None,
+        live: 0,
+    }
+}
+
 // What is told of a run, with its state out of the arrays.
-fn with_state(
+pub fn with_state(
     s: Summary,
     cells: &[u64; 2048],
     kinds: &[u8; 2048],
@@ -89,7 +106,57 @@ fn with_state(
     }
 }
 
-// Arguments are admitted first, then the budget. The arrays of the state are made here, and lent to all that changes them.
+// A run whose state is left in arrays that the caller lends, all 0 before. Arguments are admitted first, then the budget; after a refusal all is 0 still.
+pub fn run_lent(
+    counts: Counts,
+    parents: &[u8; 33],
+    initialisers: &[u8; 33],
+    fields: &[u8; 516],
+    methods: &[u8; 4128],
+    parts: &[usize; 258],
+    code: &[u8],
+    given: &[u64],
+    budget: u64,
+    cells: &mut [u64; 2048],
+    kinds: &mut [u8; 2048],
+    marks: &mut [u8; 33],
+    classes: &mut [u8; 256],
+    heap: &mut [u64; 2048],
+    statics: &mut [u64; 64],
+) -> Summary
+    requires loads { Loads code.now (lent_loaded counts parents.now initialisers.now fields.now methods.now parts.now) }
+    requires zeros { AllZero cells.old kinds.old marks.old classes.old heap.old statics.old }
+    ensures { (M : Module) → Fine M →
+        Holds M code.now (lent_loaded counts parents.now initialisers.now fields.now methods.now
+        parts.now) → Answers (run_module M given.now budget)
+        (ended_with result cells.new kinds.new marks.new classes.new heap.new statics.new) }
+{
+    if !admit(counts.entry, methods, given, cells) {
+        return not_run(ARGUMENTS, 0);
+    }
+    if MOST_BUDGET < budget {
+        *cells = [0u64; 2048];
+        return not_run(BUDGET, 0);
+    }
+    played(
+        cells,
+        kinds,
+        marks,
+        classes,
+        heap,
+        statics,
+        counts,
+        parents,
+        initialisers,
+        fields,
+        methods,
+        parts,
+        code,
+        budget,
+    )
+}
+
+// The run with its whole state: the arrays of the state are made here, and lent to all that changes them.
 pub fn run(
     counts: Counts,
     parents: &[u8; 33],
@@ -107,24 +174,12 @@ pub fn run(
         parts.now) → Answers (run_module M given.now budget) result }
 {
     let mut cells = [0u64; 2048];
-    if !admit(counts.entry, methods, given, &mut cells) {
-        return refused(ARGUMENTS, 0);
-    }
-    if MOST_BUDGET < budget {
-        return refused(BUDGET, 0);
-    }
     let mut kinds = [0u8; 2048];
     let mut marks = [0u8; 33];
     let mut classes = [0u8; 256];
     let mut heap = [0u64; 2048];
     let mut statics = [0u64; 64];
-    let s = played(
-        &mut cells,
-        &mut kinds,
-        &mut marks,
-        &mut classes,
-        &mut heap,
-        &mut statics,
+    let s = run_lent(
         counts,
         parents,
         initialisers,
@@ -132,7 +187,14 @@ pub fn run(
         methods,
         parts,
         code,
+        given,
         budget,
+        &mut cells,
+        &mut kinds,
+        &mut marks,
+        &mut classes,
+        &mut heap,
+        &mut statics,
     );
     with_state(s, &cells, &kinds, &marks, &classes, &heap, &statics)
 }

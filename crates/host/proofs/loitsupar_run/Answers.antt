@@ -1,5 +1,5 @@
 -- `loitsupar_run` meets its contract: the cells of the run's answer and state, or nothing.
-use mathlib.Core.Path.{ap, ◌∙◌}
+use mathlib.Core.Path.{refl, ap, ◌∙◌}
 use Rattle.runner.specs.declared.Ended.{Ended}
 use Rattle.host.specs.Hosting.{over, answer_cells, state_cells}
 use Rattle.host.proofs.Written.{first_few, second_few, both_enough, refused, unwritten, done, as_written, ended}
@@ -15,6 +15,9 @@ returns-then-state-lt-STATE c = let g = c.args in
     let h = second_few _ g.answer.now _ g.state.now c.if-answer-lt-ANSWER.false c.if-state-lt-STATE.true in
     record { value = refused h; answer_after = unwritten h _ _; state_after = unwritten h _ _ }
 
+pub run-s-requires : goal.run-s-requires
+run-s-requires c = record { no_cells = refl; no_kinds = refl; no_marks = refl; no_classes = refl; no_heap = refl; no_statics = refl }
+
 pub returns : goal.returns
 unfolding answer_cells
 returns c = let stated = c in
@@ -22,7 +25,7 @@ returns c = let stated = c in
     let tested = told in
     let g = tested.args in
     let h = both_enough _ g.answer.now _ g.state.now tested.if-answer-lt-ANSWER.false tested.if-state-lt-STATE.false in
-    let q = ended _ _ told.run-e.ensures in
+    let q = ended _ _ told.run-s.ensures in
     let a = told.lay_answer.ensures ∙ ap (λ (e : Ended). over (answer_cells e) g.answer.now) q in
     let s = c.lay_state.ensures ∙ ap (λ (e : Ended). over (state_cells e.state) g.state.now) q in
     record { value = done h; answer_after = as_written h _ _ _ a; state_after = as_written h _ _ _ s }

@@ -1,26 +1,10 @@
 -- `running::run` meets its contract.
 use mathlib.Core.Path.{refl}
-use Rattle.loitsupar.proofs.Answered.{refused, stands, not_run, ready, runs}
+use Rattle.runner.proofs.Answering.{the_same}
 use Rattle.loitsupar.proofs.running.run.Goals as goal
 
-pub load_into-l-requires : goal.load_into-l-requires
-load_into-l-requires c = record { parents_is = refl; initialisers_is = refl; fields_is = refl; methods_is = refl; parts_is = refl }
-
-pub returns-then-fault-ne0 : goal.returns-then-fault-ne0
-returns-then-fault-ne0 c =
-    let r = refused _ _ _ c.load_into-l.ensures c.if-fault-ne0.true in
-    not_run r _ _ _ c.refused.ensures
-
-pub run-requires : goal.run-requires
-run-requires c =
-    let fine = c in
-    let loaded = fine in
-    let known = loaded in
-    ready (stands _ _ _ loaded.load_into-l.ensures fine.if-fault-ne0.false) (λ i. (known.type_inv.code i).fits)
+pub run-s-requires : goal.run-s-requires
+run-s-requires c = record { no_cells = refl; no_kinds = refl; no_marks = refl; no_classes = refl; no_heap = refl; no_statics = refl }
 
 pub returns : goal.returns
-returns c =
-    let fine = c in
-    let loaded = fine in
-    let known = loaded in
-    runs (stands _ _ _ loaded.load_into-l.ensures fine.if-fault-ne0.false) (λ i. (known.type_inv.code i).fits) _ _ _ c.run.ensures
+returns c = let t = c in the_same _ c.with_state.ensures t.run-s.ensures
