@@ -4,7 +4,7 @@
  *
  * Every content of a file, of tables, code and arguments, and every length has its answer. What is given is only read; what is lent for an
  * answer overlaps nothing else. No call keeps a pointer, none allocates, and calls from several threads do not meet. A call takes less than
- * 200 kilobytes of stack, and 43 kilobytes more where it is lent no state. */
+ * 100 kilobytes of stack, and 43 kilobytes more where it is lent no state. */
 #ifndef LOITSUPAR_H
 #define LOITSUPAR_H
 
