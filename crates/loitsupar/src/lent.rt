@@ -1,13 +1,13 @@
 // The run over tables and code in arrays that the caller lends: it loads first and passes a refusal on. It does not check.
 ghost use Rattle.model.specs.Run.{run as run_of};
 ghost use Rattle.runner.specs.Answers.{Answers};
-ghost use Rattle.runner.specs.Playing.{ended_with, AllZero};
+ghost use Rattle.runner.specs.Playing.{ended_with};
 
 use loader::load_into;
 use runner::{Summary, not_run, run_lent};
 
-// Loads the tables and runs the entry with arguments, int64 as bits, and a budget of steps. The state is left in the arrays, which are all 0 before, and
-// after a refusal too.
+// Loads the tables and runs the entry with arguments, int64 as bits, and a budget of steps. The state is left in the arrays, whatever they held; after a
+// refusal they are all 0.
 pub fn run(
     tables: &[u8],
     code: &[u8],
@@ -20,10 +20,15 @@ pub fn run(
     heap: &mut [u64; 2048],
     statics: &mut [u64; 64],
 ) -> Summary
-    requires { AllZero cells.old kinds.old marks.old classes.old heap.old statics.old }
     ensures { Answers (run_of tables.now code.now arguments.now budget)
         (ended_with result cells.new kinds.new marks.new classes.new heap.new statics.new) }
 {
+    *cells = [0u64; 2048];
+    *kinds = [0u8; 2048];
+    *marks = [0u8; 33];
+    *classes = [0u8; 256];
+    *heap = [0u64; 2048];
+    *statics = [0u64; 64];
     let mut parents = [0u8; 33];
     let mut initialisers = [0u8; 33];
     let mut fields = [0u8; 516];

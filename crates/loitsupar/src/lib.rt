@@ -1,4 +1,4 @@
-// The public functions over house tables and code. None has a `requires`, but that the arrays lent to a run are 0.
+// The public functions over house tables and code; none has a `requires`.
 #![tactic(auto)]
 
 pub mod checking; // the check of a module, which loads it first

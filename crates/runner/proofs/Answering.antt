@@ -12,11 +12,10 @@ use Rattle.model.specs.State.{Value}
 use Rattle.model.specs.Step.{lowest_free}
 use Rattle.model.specs.Run as Run
 use Rattle.model.specs.Run.{admit, first, steps, run_module}
-use Rattle.state.specs.Layout.{no_state}
 use Rattle.runner.specs.declared.Ended.{Ended}
 use Rattle.runner.specs.declared.playing.Summary.{Summary}
 use Rattle.runner.specs.Answers.{refused_by, Tells, Answers}
-use Rattle.runner.specs.Playing.{ended_with, not_run_by, AllZero}
+use Rattle.runner.specs.Playing.{ended_with, ended_empty, AllZero}
 
 module _ {A : Type 0} {o : Option A} (b : Bool) (a : A) (e : o ≡ only_if b (some a)) where
   pub turned_down : not b ≡ true → o ≡ none
@@ -53,10 +52,10 @@ module _ (M : Module) (given : List ℕ) (budget : ℕ) (r : Ended) where
     was_run b {x} e h = rw (admitted, le-leb budget 1000000 b) (subst (Tells (steps lowest_free M budget 0 (first M vs))) (sym e) h)
 
 -- a refusal, and arrays in which all is 0
-pub all_zero : {s : Summary} (f : Refusal) {cells kinds marks classes heap statics : List ℕ} → s ≡ not_run_by f
+pub all_zero : {s : Summary} (f : Refusal) {cells kinds marks classes heap statics : List ℕ} → ended_empty s ≡ refused_by f
     → AllZero cells kinds marks classes heap statics → ended_with s cells kinds marks classes heap statics ≡ refused_by f
-unfolding not_run_by refused_by no_state
-all_zero f e z = rw (e, z.no_cells, z.no_kinds, z.no_marks, z.no_classes, z.no_heap, z.no_statics)
+unfolding ended_empty
+all_zero f e z = rw (z.no_cells, z.no_kinds, z.no_marks, z.no_classes, z.no_heap, z.no_statics) e
 
 -- an answer handed on as it is
 pub the_same : (a : Answer Refusal Run.Ended) {r x : Ended} → r ≡ x → Answers a x → Answers a r

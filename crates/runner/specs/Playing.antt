@@ -3,7 +3,6 @@ use Rattle.std.specs.Prelude.{ℕ, ◌≡◌, List, replicate, eqb}
 use Rattle.std.proofs.Math.Option.{Option, none, some}
 use Rattle.model.specs.Answer.{pick}
 use Rattle.model.specs.Tables.{Module, method_at}
-use Rattle.model.specs.Loading.{Refusal}
 use Rattle.model.specs.State.{Value}
 use Rattle.model.specs.Step.{lowest_free}
 use Rattle.model.specs.Run.{admit, first, steps}
@@ -13,7 +12,6 @@ use Rattle.state.specs.View.{value_by}
 use Rattle.state.specs.Order.{Fine}
 use Rattle.state.specs.Work.{copy_of, EndedW}
 use Rattle.begin_end.specs.Admission.{Words}
-use Rattle.line.specs.declared.line.Value.TheVariants.{None}
 use Rattle.runner.specs.declared.Ended.{Ended}
 use Rattle.runner.specs.declared.playing.Summary.{Summary}
 use Rattle.runner.specs.Answers.{value_in, Tells}
@@ -42,9 +40,9 @@ ended_with s cells kinds marks classes heap statics =
       state = record { live = s.live; cells = cells; kinds = kinds; statics = statics; marks = marks; classes = classes; heap = heap };
     }
 
--- what is told of a refusal: number and place, and all else is 0
-unfoldable pub not_run_by : Refusal → Summary
-not_run_by f = record { end = record { number = f.number; method = 0; offset = f.place }; steps = 0; value = None; live = 0 }
+-- a summary with arrays in which all is 0
+unfoldable pub ended_empty : Summary → Ended
+ended_empty s = ended_with s (replicate 2048 0) (replicate 2048 0) (replicate 33 0) (replicate 256 0) (replicate 2048 0) (replicate 64 0)
 
 -- the arrays of a state in which all is 0
 pub record AllZero (cells kinds marks classes heap statics : List ℕ) : Type 0 where

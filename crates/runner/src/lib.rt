@@ -10,7 +10,7 @@ ghost use Rattle.loaded.specs.Holds.{Holds};
 ghost use Rattle.state.specs.Order.{Fine};
 ghost use Rattle.between_steps.specs.Running.{lent_loaded};
 ghost use Rattle.runner.specs.Answers.{Loads, Answers, refused_by};
-ghost use Rattle.runner.specs.Playing.{ended_with, not_run_by, AllZero};
+ghost use Rattle.runner.specs.Playing.{ended_with, ended_empty, AllZero};
 
 pub use crate::playing::Summary;
 use crate::playing::played;
@@ -61,7 +61,7 @@ pub fn refused(number: u8, place: usize) -> Ended
 
 // What is told of a refusal, where the arrays of the state are lent: its number and place, and all else is 0.
 pub fn not_run(number: u8, place: usize) -> Summary
-    ensures { result ≡ not_run_by (record { number = number; place = place }) }
+    ensures { ended_empty result ≡ refused_by (record { number = number; place = place }) }
 {
     Summary {
         end: Fault {

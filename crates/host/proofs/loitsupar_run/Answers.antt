@@ -1,5 +1,5 @@
 -- `loitsupar_run` meets its contract: the cells of the run's answer and state, or nothing.
-use mathlib.Core.Path.{refl, ap, ◌∙◌}
+use mathlib.Core.Path.{ap, ◌∙◌}
 use Rattle.runner.specs.declared.Ended.{Ended}
 use Rattle.host.specs.Hosting.{over, answer_cells, state_cells}
 use Rattle.host.proofs.Written.{first_few, second_few, both_enough, refused, unwritten, done, as_written, ended}
@@ -14,9 +14,6 @@ pub returns-then-state-lt-STATE : goal.returns-then-state-lt-STATE
 returns-then-state-lt-STATE c = let g = c.args in
     let h = second_few _ g.answer.now _ g.state.now c.if-answer-lt-ANSWER.false c.if-state-lt-STATE.true in
     record { value = refused h; answer_after = unwritten h _ _; state_after = unwritten h _ _ }
-
-pub run-s-requires : goal.run-s-requires
-run-s-requires c = record { no_cells = refl; no_kinds = refl; no_marks = refl; no_classes = refl; no_heap = refl; no_statics = refl }
 
 pub returns : goal.returns
 unfolding answer_cells

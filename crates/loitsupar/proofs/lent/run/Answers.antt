@@ -10,7 +10,7 @@ load_into-l-requires c = record { parents_is = refl; initialisers_is = refl; fie
 pub returns-then-fault-ne0 : goal.returns-then-fault-ne0
 returns-then-fault-ne0 c =
     let r = refused _ _ _ c.load_into-l.ensures c.if-fault-ne0.true in
-    not_run r _ _ _ (all_zero _ c.not_run.ensures c.requires)
+    not_run r _ _ _ (all_zero _ c.not_run.ensures (record { no_cells = refl; no_kinds = refl; no_marks = refl; no_classes = refl; no_heap = refl; no_statics = refl }))
 
 pub run_lent-requires : goal.run_lent-requires
 run_lent-requires c =
@@ -19,7 +19,7 @@ run_lent-requires c =
     let known = loaded in
     record {
       loads = ready (stands _ _ _ loaded.load_into-l.ensures fine.if-fault-ne0.false) (λ i. (known.type_inv.code i).fits);
-      zeros = known.requires;
+      zeros = record { no_cells = refl; no_kinds = refl; no_marks = refl; no_classes = refl; no_heap = refl; no_statics = refl };
     }
 
 pub returns : goal.returns
