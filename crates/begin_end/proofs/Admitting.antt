@@ -7,8 +7,9 @@ use mathlib.Core.List.{List, [], ◌∷◌}
 use native.Mathlib.Omega.{arith}
 use native.Mathlib.Nat.{add-zero}
 use native.Mathlib.Numerals.{add-one}
-use lib.ListN.{length, get_or, drop}
+use lib.ListN.{length, get_or, take, drop}
 use lib.Seq.{drop-cons}
+use Rattle.std.proofs.lemmas.List.{get_or-take, get_or-drop}
 use mir.Syntax.{w32, w64}
 use mir.Val.{to_z, of_z, Fits}
 use borrow.Author.Tests.{ne_eqb}
@@ -27,23 +28,16 @@ use Rattle.begin_end.specs.Admission.{takes, takes_all, Words}
 
 -- ---- The loop over the arguments
 
-module _ (types given : List ℕ) (from : ℕ) where
-  pub takes_first : takes_all types (drop 0 given) (from + 0) ≡ takes_all types given from
-  takes_first = simp add-zero
+module _ (types given : List ℕ) (i : ℕ) (h : i < length given) where
+  opened : takes_all types (drop i given) i ≡ takes (get_or types i 0) (get_or given i 0) && takes_all types (drop (i + 1) given) (i + 1)
+  unfolding takes_all
+  opened = rw (add-one i, drop-cons given i 0 h)
 
-  module _ (i : ℕ) (h : i < length given) where
-    opened : takes_all types (drop i given) (from + i) ≡ takes (get_or types (from + i) 0) (get_or given i 0) && takes_all types (drop (i + 1) given) (from + (i + 1))
-    unfolding takes_all
-    opened =
-        let e : from + (i + 1) ≡ suc (from + i) = omega arith in
-        rw (e, add-one i, drop-cons given i 0 h)
+  pub takes_more : takes (get_or types i 0) (get_or given i 0) ≡ true → takes_all types (drop i given) i ≡ takes_all types (drop (i + 1) given) (i + 1)
+  takes_more t = opened ∙ ap (λ (b : Bool). b && takes_all types (drop (i + 1) given) (i + 1)) t
 
-    pub takes_more : takes (get_or types (from + i) 0) (get_or given i 0) ≡ true → takes_all types (drop i given) (from + i) ≡ takes_all types (drop
-        (i + 1) given) (from + (i + 1))
-    takes_more t = opened ∙ ap (λ (b : Bool). b && takes_all types (drop (i + 1) given) (from + (i + 1))) t
-
-    pub takes_end : takes (get_or types (from + i) 0) (get_or given i 0) ≡ false → takes_all types (drop i given) (from + i) ≡ false
-    takes_end t = opened ∙ ap (λ (b : Bool). b && takes_all types (drop (i + 1) given) (from + (i + 1))) t
+  pub takes_end : takes (get_or types i 0) (get_or given i 0) ≡ false → takes_all types (drop i given) i ≡ false
+  takes_end t = opened ∙ ap (λ (b : Bool). b && takes_all types (drop (i + 1) given) (i + 1)) t
 
 drop_all : (l : List ℕ) (i : ℕ) → length l ≤ i → drop i l ≡ []
 drop_all [] zero h = refl
@@ -144,29 +138,33 @@ admits (t ∷ ts) (a ∷ l) types i h e w =
 abbrev entry_params : Module → List Ty
 entry_params M = (method_at M.methods M.entry).params
 
-module _ (M : Module) (code : List ℕ) (L : Loaded) (given : List ℕ) {methods : List ℕ} {entry : ℕ} (H : Holds M code L) (fine : Fine M)
-    (em : L.methods ≡ methods) (en : L.counts.entry ≡ entry) where
-  entry_row : entry ≡ M.entry
-  entry_row = sym en ∙ H.entry_row
-
+module _ (M : Module) (code : List ℕ) (L : Loaded) (given : List ℕ) (H : Holds M code L) (fine : Fine M) where
   params : arguments (method_at M.methods M.entry) ≡ entry_params M
   unfolding arguments this_of
   params = rw fine.entry_static
 
-  counted : method_cell methods entry 28 ≡ length (entry_params M)
-  counted = rw (← em, entry_row, H.by_method.argument_count M.entry, params)
+  abbrev count : ℕ
+  count = method_cell L.methods L.counts.entry 28
 
-  typed : method_cell methods entry 28 ≤ 8 → Typed methods (entry * 32) (entry_params M)
-  typed few j h = let q = counted in rw (← em, entry_row, H.by_method.argument_type M.entry j (omega arith), params)
+  counted : count ≡ length (entry_params M)
+  counted = rw (H.entry_row, H.by_method.argument_count M.entry, params)
 
-  pub miscounted : (length given ≡ method_cell methods entry 28 → ⊥) → admit (entry_params M) given ≡ none
+  typed : count ≤ 8 → (n : ℕ) → n ≡ count → Typed (take n (drop (L.counts.entry * 32) L.methods)) 0 (entry_params M)
+  typed few n e j h =
+      let q = counted in
+      let k : j < n = omega arith in
+      let z : 0 + j ≡ j = omega arith in
+      rw (z, get_or-take n (drop (L.counts.entry * 32) L.methods) j 0 k, get_or-drop (L.counts.entry * 32) L.methods j 0, H.entry_row)
+      (rw params at (H.by_method.argument_type M.entry j (omega (arith, ap length params))))
+
+  pub miscounted : (length given ≡ count → ⊥) → admit (entry_params M) given ≡ none
   miscounted n = unequal (entry_params M) given (λ e. n (e ∙ sym counted))
 
-  module _ (few : method_cell methods entry 28 ≤ 8) (n : length given ≡ method_cell methods entry 28) (w : Words given) where
-    pub turned_down : takes_all methods given (entry * 32) ≡ false → admit (entry_params M) given ≡ none
+  module _ (few : count ≤ 8) (n : length given ≡ count) (w : Words given) (m : ℕ) (e : m ≡ length given) where
+    pub turned_down : takes_all (take m (drop (L.counts.entry * 32) L.methods)) given 0 ≡ false → admit (entry_params M) given ≡ none
     unfolding only_if
-    turned_down f = rw f at (admits (entry_params M) given methods (entry * 32) (typed few) (n ∙ counted) w)
+    turned_down f = rw f at (admits (entry_params M) given _ 0 (typed few m (e ∙ n)) (n ∙ counted) w)
 
-    pub let_in : takes_all methods given (entry * 32) ≡ true → admit (entry_params M) given ≡ some (seen (entry_params M) given 0)
+    pub let_in : takes_all (take m (drop (L.counts.entry * 32) L.methods)) given 0 ≡ true → admit (entry_params M) given ≡ some (seen (entry_params M) given 0)
     unfolding only_if
-    let_in f = rw f at (admits (entry_params M) given methods (entry * 32) (typed few) (n ∙ counted) w)
+    let_in f = rw f at (admits (entry_params M) given _ 0 (typed few m (e ∙ n)) (n ∙ counted) w)

@@ -4,12 +4,15 @@ use mathlib.Core.Path.{◌≡◌, refl, sym, ◌∙◌, ap}
 use mathlib.Core.Bool.{Bool, true, false}
 use mathlib.Core.List.{List}
 use native.Mathlib.Omega.{arith}
-use lib.ListN.{length, get_or, set, length-set}
-use lib.Seq.{ext_get_or, get_or-set_same, get_or-set_other}
+use Rattle.std.proofs.Common.{rules}
+use Rattle.std.proofs.lemmas.List.{places, get_or-append_right, get_or_append_left, get_or-take, get_or-drop, get_or-replicate}
+use borrow.Rule.Slice.PartMut.{put_mid, post_of}
+use lib.ListN.{length, get_or, take, drop, replicate}
+use lib.Seq.{ext_get_or}
 use lib.Dec.{ltb, eqb}
 use borrow.Author.Tests.{eqb-true, eqb-false, ltb-true, ltb-false}
 use Rattle.state.specs.View.{span}
-use Rattle.state.specs.Layout.{tidy_bits, tidy_byte, tidy_statics}
+use Rattle.state.specs.Layout.{tidy_byte, tidy_statics}
 use Rattle.begin_end.specs.Ending.{Changed}
 
 length_span : (f : ℕ → ℕ) (i n : ℕ) → length (span f i n) ≡ n
@@ -35,25 +38,48 @@ unchanged g from l = record { long = refl; inside = λ j a b. absurd (omega arit
 pub kept : (from to : ℕ) (l : List ℕ) → Changed (λ j. get_or l j 0) from to l l
 kept from to l = record { long = refl; inside = λ j a b. refl; below = λ j b. refl; above = λ j b. refl }
 
--- one place more
-module _ {g : ℕ → ℕ} {from to : ℕ} {before l : List ℕ} (v : ℕ) (d : Changed g from to before l) where
-  pub change_more : {next : ℕ} → next ≡ to + 1 → from ≤ to → to < length before → v ≡ g to → Changed g from next before (set l to v)
-  change_more {next} n h b e =
+-- a part written anew: k is how long it is, ys what it holds now
+module _ (g : ℕ → ℕ) (a to : ℕ) (xs ys : List ℕ) (low : a ≤ to) (fit : to ≤ length xs) (long : length ys ≡ to - a)
+    (here : (i : ℕ) → i < to - a → get_or ys i 0 ≡ g (a + i)) where
+  before : length (take a xs) ≡ a
+  before = search (rules, places)
+
+  inside : (j : ℕ) → a ≤ j → j < to → get_or (put_mid a (to - a) xs ys) j 0 ≡ g j
+  inside j p q =
+      let k : j - a < to - a = omega arith in
+      let s : a + (j - a) ≡ j = omega arith in
+      get_or-append_right (take a xs) _ a j 0 before p ∙ (get_or_append_left ys (post_of a (to - a) xs) 0 (j - a) (omega (arith, long)) ∙ rw s at (here (j - a) k))
+
+  pub part_changed : Changed g a to xs (put_mid a (to - a) xs ys)
+  part_changed =
       record {
-        long = simp length-set d.long;
-        inside = λ j a q. one j a q (eqb j to) refl;
-        below = λ j q. get_or-set_other l to j v 0 (λ z. omega arith) ∙ d.below j q;
-        above = λ j q. get_or-set_other l to j v 0 (λ z. omega arith) ∙ d.above j (omega arith);
+        long = search (rules, places, long);
+        inside = inside;
+        below = λ j p. search (rules, places);
+        above = λ j p. search (rules, places, long);
       }
-    where
-      one : (j : ℕ) → from ≤ j → j < next → (t : Bool) → eqb j to ≡ t → get_or (set l to v) j 0 ≡ g j
-      one j a q true t =
-          let s : j ≡ to = eqb-true _ _ t in
-          let k : to < length l = omega (arith, d.long) in
-          rw s (get_or-set_same l to v 0 k ∙ e)
-      one j a q false t =
-          let o : j ≡ to → ⊥ = eqb-false j to t in
-          get_or-set_other l to j v 0 o ∙ d.inside j a (omega arith)
+
+-- a part wiped
+pub wiped : (a to : ℕ) (xs ys : List ℕ) → a ≤ to → to ≤ length xs → ys ≡ replicate (length (take (to - a) (drop a xs))) 0
+    → Changed (λ j. 0) a to xs (put_mid a (to - a) xs ys)
+wiped a to xs ys low fit e =
+    let size : length (take (to - a) (drop a xs)) ≡ to - a = search (rules, places) in
+    let z : ys ≡ replicate (to - a) 0 = rw size at e in
+    part_changed (λ j. 0) a to xs ys low fit (rw z (search (rules, places))) (λ i h. rw z (get_or-replicate (to - a) i 0 0 h))
+
+-- a part of which each element was made by the one that was there and the byte that stands as far from p; m is how many bytes are lent
+module _ (f : ℕ → ℕ → ℕ) (g : ℕ → ℕ) (bytes : List ℕ) (p m a to : ℕ) (xs ys : List ℕ) (low : a ≤ to) (fit : to ≤ length xs) (enough : to - a ≤ m)
+    (long : length ys ≡ length (take (to - a) (drop a xs)))
+    (each : (i : ℕ) → i < length (take (to - a) (drop a xs)) → get_or ys i 0 ≡ f (get_or (take m (drop p bytes)) i 0) (get_or (take (to - a) (drop a xs)) i 0))
+    (is : (i : ℕ) → i < to - a → f (get_or bytes (p + i) 0) (get_or xs (a + i) 0) ≡ g (a + i)) where
+  size : length (take (to - a) (drop a xs)) ≡ to - a
+  size = search (rules, places)
+
+  pub rewritten : Changed g a to xs (put_mid a (to - a) xs ys)
+  rewritten = part_changed g a to xs ys low fit (long ∙ size) λ i h.
+      let k : i < m = omega arith in
+      let e : get_or ys i 0 ≡ f (get_or bytes (p + i) 0) (get_or xs (a + i) 0) = each i (omega (arith, size)) ∙ rw (get_or-take m (drop p bytes) i 0 k, get_or-take (to - a) (drop a xs) i 0 h, get_or-drop p bytes i 0, get_or-drop a xs i 0) in
+      e ∙ is i h
 
 -- two changes, one after the other
 module _ {g h : ℕ → ℕ} {a b e : ℕ} {l m n : List ℕ} (k : ℕ → ℕ) (d : Changed g a b l m) (x : Changed h b e m n) where
@@ -76,35 +102,15 @@ changed_all {g} {n} {before} {l} e d =
     ext_get_or 0 l (span g 0 n) (w ∙ sym (length_span g 0 n)) λ j b.
     d.inside j (omega arith) (omega arith) ∙ sym (get_d_span g 0 n j (omega arith) ∙ (let z : 0 + j ≡ j = omega arith in rw z))
 
--- ---- Cells by the bytes of types, which stand from `start` on
-
-module _ (types : List ℕ) (start from i v : ℕ) {before l : List ℕ} (d : Changed (λ j. tidy_byte (get_or types (start + (j - from)) 0) (get_or before j 0)) from
-    (from + i) before l) where
-  pub typed_more : from + i < length before → v ≡ tidy_byte (get_or types (start + i) 0) (get_or l (from + i) 0)
-      → Changed (λ j. tidy_byte (get_or types (start + (j - from)) 0) (get_or before j 0)) from (from + (i + 1)) before (set l (from + i) v)
-  typed_more b e =
-      let x : from + i - from ≡ i = omega arith in
-      change_more v d (omega arith) (omega arith) b (e ∙ rw (x, d.above (from + i) (omega arith)))
-
--- ---- The loops' first and last turns, and the other cells
-
-pub none_yet : (g : ℕ → ℕ) (from : ℕ) (l : List ℕ) → Changed g from (from + 0) l l
-none_yet g from l = let e : from + 0 ≡ from = omega arith in rw e (unchanged g from l)
-
 pub reached : {g : ℕ → ℕ} {from to end : ℕ} {before l : List ℕ} → to ≡ end → Changed g from to before l → Changed g from end before l
 reached e d = rw e at d
 
-module _ (kinds : List ℕ) (from i v : ℕ) {before l : List ℕ} (d : Changed (λ j. tidy_bits (get_or kinds j 0) (get_or before j 0)) from (from + i) before l) where
-  pub shown_more : from + i < length before → v ≡ tidy_bits (get_or kinds (from + i) 0) (get_or l (from + i) 0)
-      → Changed (λ j. tidy_bits (get_or kinds j 0) (get_or before j 0)) from (from + (i + 1)) before (set l (from + i) v)
-  shown_more b e = change_more v d (omega arith) (omega arith) b (e ∙ rw (d.above (from + i) (omega arith)))
-
-module _ (types : List ℕ) (i v : ℕ) {before l : List ℕ} (d : Changed (λ j. tidy_byte (get_or types j 0) (get_or before j 0)) 0 i before l) where
-  pub statics_more : i < length before → v ≡ tidy_byte (get_or types i 0) (get_or l i 0)
-      → Changed (λ j. tidy_byte (get_or types j 0) (get_or before j 0)) 0 (i + 1) before (set l i v)
-  statics_more b e = change_more v d (omega arith) (omega arith) b (e ∙ rw (d.above i (omega arith)))
-
-pub statics_all : (types : List ℕ) {i : ℕ} {before l : List ℕ} → i ≡ 64 → length before ≡ 64
-    → Changed (λ j. tidy_byte (get_or types j 0) (get_or before j 0)) 0 i before l → l ≡ tidy_statics types before
+-- the static fields
+pub statics_all : (types before : List ℕ) {l : List ℕ} → length before ≡ 64 → length l ≡ length before
+    → ((i : ℕ) → i < length before → get_or l i 0 ≡ tidy_byte (get_or types i 0) (get_or before i 0)) → l ≡ tidy_statics types before
 unfolding tidy_statics
-statics_all types e n d = changed_all n (reached e d)
+statics_all types before {l} n m e =
+    ext_get_or 0 l (span _ 0 64) (m ∙ (n ∙ sym (length_span _ 0 64))) λ j b.
+    let k : j < 64 = omega arith in
+    let z : 0 + j ≡ j = omega arith in
+    e j (omega arith) ∙ sym (rw z at (get_d_span (λ (i : ℕ). tidy_byte (get_or types i 0) (get_or before i 0)) 0 64 j k))

@@ -3,3 +3,4 @@ pub mod Tidied
 pub mod Laying
 pub mod Admitting
 pub mod Started
+pub mod Signing

@@ -4,7 +4,8 @@ use mathlib.Core.Path.{◌≡◌, refl, sym, ◌∙◌}
 use mathlib.Core.Bool.{Bool, true, false}
 use mathlib.Core.List.{List}
 use native.Mathlib.Omega.{arith}
-use lib.ListN.{length, get_or, set, length-set}
+use lib.ListN.{length, get_or, set, take, drop, length-set}
+use borrow.Rule.Slice.PartMut.{put_mid}
 use lib.Seq.{get_or-set_same, get_or-set_other}
 use lib.Dec.{ltb, eqb}
 use borrow.Author.Tests.{lt-ltb, le-ltb, ltb-true, ltb-false, le-leb, lt-leb, eqb-true, eqb-false}
@@ -16,7 +17,7 @@ use Rattle.state.specs.Order.{Saved}
 use Rattle.state.specs.Layout.{signed32, tidy_bits, tidy_byte, tidy_cell, tidy_kind, tidy_cells, tidy_kinds, tidy_heap}
 use Rattle.across_frames.specs.Lent.{Framed}
 use Rattle.begin_end.specs.Ending.{saved_cells, Waiting, Blank, Changed}
-use Rattle.begin_end.proofs.Changing.{get_d_span, span_ext, kept, join, changed_all, reached}
+use Rattle.begin_end.proofs.Changing.{get_d_span, span_ext, kept, rewritten, join, changed_all, reached}
 
 -- ---- The cell m of a live frame
 
@@ -86,6 +87,25 @@ module _ (methods kinds : List ℕ) (f depth row : ℕ) (few : depth ≤ 32) {l�
       let e : Changed cell_of (f * 64) (f * 64 + 58 + 1) l₀ l₃ = join cell_of b (kept (f * 64 + 56) (f * 64 + 58 + 1) l₃) (omega arith) (omega arith)
       (λ j u w. refl) saved_is in
       join cell_of e d₄ (omega arith) (omega arith) (λ j u w. refl) past_is
+
+-- what the two parts of a frame come to that are shown by bytes
+abbrev Each : (ℕ → ℕ → ℕ) → List ℕ → List ℕ → List ℕ → Type 0
+Each f bytes before after = (i : ℕ) → i < length before → get_or after i 0 ≡ f (get_or bytes i 0) (get_or before i 0)
+
+pub variables_left : (methods : List ℕ) (f row : ℕ) (l ys : List ℕ) → f * 64 + 24 ≤ length l
+    → length ys ≡ length (take (f * 64 + 24 - f * 64) (drop (f * 64) l))
+    → Each tidy_byte (take (row * 32 + 24 - row * 32) (drop (row * 32) methods)) (take (f * 64 + 24 - f * 64) (drop (f * 64) l)) ys
+    → Changed (λ j. tidy_byte (method_cell methods row (j - f * 64)) (get_or l j 0)) (f * 64) (f * 64 + 24) l (put_mid (f * 64) (f * 64 + 24 - f * 64) l ys)
+variables_left methods f row l ys fit long each =
+    rewritten tidy_byte _ methods (row * 32) _ (f * 64) (f * 64 + 24) l ys (omega arith) fit (omega arith) long each
+    λ i h. let x : f * 64 + i - f * 64 ≡ i = omega arith in rw x
+
+pub stack_left : (kinds : List ℕ) (bottom depth : ℕ) (l ys : List ℕ) → bottom + depth ≤ length l
+    → length ys ≡ length (take (bottom + depth - bottom) (drop bottom l))
+    → Each tidy_bits (take (bottom + depth - bottom) (drop bottom kinds)) (take (bottom + depth - bottom) (drop bottom l)) ys
+    → Changed (λ j. tidy_bits (get_or kinds j 0) (get_or l j 0)) bottom (bottom + depth) l (put_mid bottom (bottom + depth - bottom) l ys)
+stack_left kinds bottom depth l ys fit long each =
+    rewritten tidy_bits _ kinds bottom _ bottom (bottom + depth) l ys (omega arith) fit (omega arith) long each λ i h. refl
 
 -- ---- The kind m of a live frame
 
@@ -229,6 +249,15 @@ no_object_left t place heap z =
         let x : place * 8 + (j - place * 8) ≡ j = omega arith in
         let e : get_or heap j 0 ≡ 0 = rw x at (z (j - place * 8) (omega arith)) in
         rw e (sym (tidy_zero (t j)))
+
+pub object_left : (types : List ℕ) (class place : ℕ) (heap ys : List ℕ) → place * 8 + 8 ≤ length heap
+    → length ys ≡ length (take (place * 8 + 8 - place * 8) (drop (place * 8) heap))
+    → Each tidy_byte (take (class * 8 + 8 - class * 8) (drop (class * 8) types)) (take (place * 8 + 8 - place * 8) (drop (place * 8) heap)) ys
+    → Changed (λ j. tidy_byte (get_or types (class * 8 + (j - place * 8)) 0) (get_or heap j 0)) (place * 8) (place * 8 + 8) heap
+        (put_mid (place * 8) (place * 8 + 8 - place * 8) heap ys)
+object_left types class place heap ys fit long each =
+    rewritten tidy_byte _ types (class * 8) _ (place * 8) (place * 8 + 8) heap ys (omega arith) fit (omega arith) long each
+    λ i h. let x : place * 8 + i - place * 8 ≡ i = omega arith in rw x
 
 abbrev pub fields_to : List ℕ → List ℕ → List ℕ → ℕ → List ℕ → Type 0
 fields_to types classes h₀ i h = Changed (λ j. tidy_byte (get_or types (get_or classes (j / 8) 0 * 8 + j % 8) 0) (get_or h₀ j 0)) 0 i h₀ h

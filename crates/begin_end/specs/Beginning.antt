@@ -1,6 +1,7 @@
--- A work in which nothing is written yet.
-use Rattle.std.specs.Prelude.{replicate}
+-- A work in which nothing is written yet, and what the beginning writes of a state.
+use Rattle.std.specs.Prelude.{ℕ, List, replicate}
 use Rattle.state.specs.View.{Work}
+use Rattle.state.specs.declared.State.{State}
 
 abbrev pub blank_w : Work
 blank_w =
@@ -13,3 +14,8 @@ blank_w =
       classes = replicate 256 0;
       heap = replicate 2048 0;
     }
+
+-- a state with these cells and marks
+abbrev pub with_frames : State → List ℕ → List ℕ → State
+with_frames s cells marks =
+    record { live = s.live; cells = cells; kinds = s.kinds; statics = s.statics; marks = marks; classes = s.classes; heap = s.heap }

@@ -1,20 +1,21 @@
 // Which arguments the entry takes. They come as int64, in bits.
-ghost use Rattle.std.specs.Prelude.{◌≡◌, List, ℕ, ◌+◌, ◌*◌, ◌≤◌, length};
+ghost use Rattle.std.specs.Prelude.{◌≡◌, List, ℕ, ◌≤◌, length};
 ghost use Rattle.std.proofs.Math.Option.{some};
 ghost use Rattle.model.specs.Answer.{pick, only_if};
 ghost use Rattle.model.specs.Tables.{Module, method_at};
 ghost use Rattle.model.specs.Run.{admit};
-ghost use Rattle.loaded.specs.declared.Loaded.{Loaded};
 ghost use Rattle.loaded.specs.Holds.{method_cell, Holds};
 ghost use Rattle.state.specs.View.{seen};
 ghost use Rattle.state.specs.Work.{copy_of};
 ghost use Rattle.state.specs.Order.{Fine};
 ghost use Rattle.begin_end.specs.Admission.{takes, takes_all};
+ghost use Rattle.begin_end.specs.Beginning.{with_frames};
 
 use across_frames::enter::ROW;
 use integers::admitted;
+use loaded::Loaded;
 use loaded::columns::ARGUMENT_COUNT;
-use state::fit::wide;
+use state::State;
 
 // The types that take an argument.
 const INT32: u8 = 1;
@@ -25,56 +26,44 @@ const INT64: u8 = 2;
 fn takes(byte: u8, argument: u64) -> bool
     ensures { result ≡ takes byte argument }
 {
-    if byte == INT32 {
-        return admitted(argument);
+    match byte {
+        INT32 => admitted(argument),
+        INT64 => true,
+        _ => false,
     }
-    byte == INT64
 }
 
-// Whether parameters whose types stand from a place on take the arguments.
-fn takes_all(methods: &[u8; 4128], from: usize, given: &[u64]) -> bool
-    requires { from + length given.now ≤ 4128 }
-    ensures { result ≡ takes_all methods.now given.now from }
+// Whether parameters of the types of bytes take the arguments.
+fn takes_all(types: &[u8], given: &[u64]) -> bool
+    requires { length given.now ≡ length types.now }
+    ensures { result ≡ takes_all types.now given.now 0 }
 {
-    let mut i: usize = 0;
-    while i < given.len() {
-        let at = from + i;
-        if !takes(methods[at], given[i]) {
+    for (i, argument) in given.iter().enumerate() {
+        if !takes(types[i], *argument) {
             return false;
         }
-        i += 1;
     }
     true
 }
 
-// The arguments laid in the cells of the first frame.
-fn lay(given: &[u64], cells: &mut [u64; 2048])
-    requires { length given.now ≤ 8 }
-    ensures { cells.new ≡ copy_of (length given.now) given.now 0 0 cells.old }
-{
-    let mut i: usize = 0;
-    while i < given.len() {
-        cells[i] = given[i];
-        i += 1;
-    }
-}
-
-// Whether the entry takes the arguments, as many as it has parameters; where it does they are laid in the cells.
-pub fn admit(entry: usize, methods: &[u8; 4128], given: &[u64], cells: &mut [u64; 2048]) -> bool
-    requires { (entry ≤ 128) × (method_cell methods.now entry 28 ≤ 8) }
-    ensures cells_is { cells.new
-        ≡ pick result (copy_of (method_cell methods.now entry 28) given.now 0 0 cells.old) cells.old }
-    ensures as_model { ((M : Module) (code : List ℕ) (L : Loaded) → Holds M code L → Fine M → L.methods ≡ methods.now → L.counts.entry ≡ entry
+// Whether the entry takes the arguments, as many as it has parameters; where it does they are laid in the cells of the first frame.
+pub fn admit(loaded: &Loaded, given: &[u64], state: &mut State) -> bool
+    requires { (loaded.now.counts.entry ≤ 128) × (method_cell loaded.now.methods loaded.now.counts.entry 28 ≤ 8) }
+    ensures state_is { state.new ≡ pick result
+        (with_frames state.old (copy_of (method_cell loaded.now.methods loaded.now.counts.entry 28) given.now 0 0 state.old.cells) state.old.marks)
+        state.old }
+    ensures as_model { ((M : Module) (code : List ℕ) → Holds M code loaded.now → Fine M
         → admit (method_at M.methods M.entry).params given.now
         ≡ only_if result (some (seen (method_at M.methods M.entry).params given.now 0))) }
 {
-    let row = entry * ROW;
-    if given.len() != wide(methods[row + ARGUMENT_COUNT]) {
+    let row = loaded.counts.entry * ROW;
+    let count = given.len();
+    if count != usize::from(loaded.methods[row + ARGUMENT_COUNT]) {
         return false;
     }
-    if !takes_all(methods, row, given) {
+    if !takes_all(&loaded.methods[row..row + count], given) {
         return false;
     }
-    lay(given, cells);
+    state.cells[..count].copy_from_slice(given);
     true
 }

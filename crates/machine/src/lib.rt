@@ -6,28 +6,22 @@ ghost use Rattle.model.specs.Tables.{part_of, Module};
 ghost use Rattle.loaded.specs.Holds.{method_cell, part_offset, part_length, Holds};
 ghost use Rattle.state.specs.Order.{Fine, Good};
 ghost use Rattle.state.specs.Meets.{regs_of};
-ghost use Rattle.between_steps.specs.Running.{lent_loaded, lent_work};
-ghost use Rattle.machine.specs.Ending.{Sets, last_regs, ended_by, Ends};
+ghost use Rattle.state.specs.Layout.{work_of};
+ghost use Rattle.machine.specs.Ending.{Sets, ended_by, Ends};
 
 use crossing::cross;
-use loaded::Counts;
+use loaded::Loaded;
 use loaded::columns::{LENGTH, MAX_STACK, METHOD, PART};
 use same_frame::same_frame;
 use state::columns::{ON, STACK};
 use state::fit::wide;
-use state::{Moved, Stay};
+use state::{Moved, State, Stay};
 
-// How the loop was left: the number of the ending, 1 a return from the entry, what is left of the budget, and the registers, `row` the running method's and `made` the number
-// of objects.
+// How the loop was left: what is left of the budget, and the last registers, whose `how` is the number of the ending, 1 a return from the entry.
 #[derive(Clone, Copy)]
 pub struct Stopped {
-    pub how: u8,
     pub left: u64,
-    pub at: usize,
-    pub sp: usize,
-    pub fp: usize,
-    pub row: usize,
-    pub made: usize,
+    pub last: Moved,
 }
 
 // The stay in the frame at `fp`, of the method at a row.
@@ -59,115 +53,85 @@ fn body<'a>(code: &'a [u8], parts: &[usize; 258], row: usize) -> &'a [u8]
     &code[from..end]
 }
 
-// At most `budget` steps from the first registers on. What the steps do is left in the lent arrays.
+// At most `budget` steps from the first registers on. What the steps do is left in the state.
 pub fn steps(
-    cells: &mut [u64; 2048],
-    kinds: &mut [u8; 2048],
-    marks: &mut [u8; 33],
-    classes: &mut [u8; 256],
-    heap: &mut [u64; 2048],
-    statics: &mut [u64; 64],
-    counts: Counts,
-    parents: &[u8; 33],
-    initialisers: &[u8; 33],
-    fields: &[u8; 516],
-    methods: &[u8; 4128],
-    parts: &[usize; 258],
+    state: &mut State,
+    loaded: &Loaded,
     code: &[u8],
     first: Moved,
     budget: u64,
 ) -> Stopped
-    requires { Sets code.now (lent_loaded counts parents.now initialisers.now fields.now methods.now parts.now)
-        (lent_work (regs_of first) cells.old kinds.old marks.old classes.old heap.old statics.old) }
-    ensures result_range { (result.left ≤ budget) × (result.how ≡ 1 → 0 < result.left) }
-    ensures ends { ((M : Module) → Fine M →
-        Holds M code.now (lent_loaded counts parents.now initialisers.now fields.now methods.now
-        parts.now) →
-        let before = lent_work (regs_of first) cells.old kinds.old marks.old classes.old heap.old
-        statics.old in
-        let after = lent_work (last_regs result) cells.new kinds.new marks.new classes.new heap.new
-        statics.new in
-        Good M before → Ends M counts.methods budget before (ended_by methods.now budget result after)) }
+    requires { Sets code.now loaded.now (work_of (regs_of first) state.old) }
+    ensures result_range { (result.left ≤ budget) × (result.last.how ≡ 1 → 0 < result.left) }
+    ensures ends { ((M : Module) → Fine M → Holds M code.now loaded.now →
+        let before = work_of (regs_of first) state.old in
+        let after = work_of (regs_of result.last) state.new in
+        Good M before → Ends M loaded.now.counts.methods budget before (ended_by loaded.now.methods budget result after)) }
 {
+    let counts = loaded.counts;
     let mut variables = [0u8; 4128];
-    prepare::variables(counts, methods, &mut variables);
+    prepare::variables(counts, &loaded.methods, &mut variables);
     let mut ancestors = [0u64; 33];
-    prepare::ancestors(counts, parents, &mut ancestors);
+    prepare::ancestors(counts, &loaded.parents, &mut ancestors);
     let mut chosen = [0u8; 4257];
-    prepare::choices(counts, parents, methods, &mut chosen);
-    let mut at = first.at;
-    let mut sp = first.sp;
-    let mut fp = first.fp;
-    let mut row = first.row;
-    let mut made = first.made;
+    prepare::choices(counts, &loaded.parents, &loaded.methods, &mut chosen);
+    let mut last = first;
     let mut left = budget;
-    let mut how = ON;
-    while how == ON {
-        let y = stay(fp, row, methods);
-        let part = body(code, parts, row);
+    last.how = ON;
+    while last.how == ON {
+        let y = stay(last.fp, last.row, &loaded.methods);
+        let part = body(code, &loaded.parts, last.row);
         let s = same_frame(
             y,
             part,
-            at,
-            sp,
+            last.at,
+            last.sp,
             left,
-            cells,
-            kinds,
-            marks,
-            classes,
-            heap,
-            statics,
-            methods,
+            &mut state.cells,
+            &mut state.kinds,
+            &mut state.marks,
+            &state.classes,
+            &mut state.heap,
+            &mut state.statics,
+            &loaded.methods,
             &variables,
-            fields,
-            initialisers,
+            &loaded.fields,
+            &loaded.initialisers,
             &ancestors,
             counts.classes,
             counts.fields,
         );
-        at = s.at;
-        sp = s.sp;
+        last.at = s.at;
+        last.sp = s.sp;
         left = s.left;
         if s.next == 0 {
-            how = s.how;
+            last.how = s.how;
         } else {
             let r = cross(
                 s.next,
                 s.first,
                 y,
                 part,
-                at,
-                sp,
-                made,
-                row,
-                cells,
-                kinds,
-                marks,
-                classes,
-                methods,
-                initialisers,
+                last.at,
+                last.sp,
+                last.made,
+                last.row,
+                &mut state.cells,
+                &mut state.kinds,
+                &mut state.marks,
+                &mut state.classes,
+                &loaded.methods,
+                &loaded.initialisers,
                 &ancestors,
                 &chosen,
                 counts.methods,
             );
-            how = r.how;
-            if how == ON {
-                at = r.at;
-                sp = r.sp;
-                fp = r.fp;
-                row = r.row;
-                made = r.made;
+            last.how = r.how;
+            if r.how == ON {
+                last = r;
                 left -= 1;
             }
         }
     }
-    Stopped {
-        how: how,
-        left: left,
-        at: at,
-        sp: sp,
-        fp: fp,
-        row: row,
-        made: made,
-    }
+    Stopped { left, last }
 }

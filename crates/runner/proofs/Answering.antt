@@ -12,29 +12,48 @@ use Rattle.model.specs.State.{Value}
 use Rattle.model.specs.Step.{lowest_free}
 use Rattle.model.specs.Run as Run
 use Rattle.model.specs.Run.{admit, first, steps, run_module}
+use Rattle.loaded.specs.Holds.{method_cell}
+use Rattle.loaded.specs.declared.Loaded.{Loaded}
+use Rattle.state.specs.declared.State.{State}
+use Rattle.state.specs.Layout.{no_state}
+use Rattle.state.specs.Work.{copy_of}
+use Rattle.begin_end.specs.Beginning.{with_frames}
+use Rattle.runner.specs.Playing.{laid, AllZero, Begun}
 use Rattle.runner.specs.declared.Ended.{Ended}
-use Rattle.runner.specs.declared.playing.Summary.{Summary}
 use Rattle.runner.specs.Answers.{refused_by, Tells, Answers}
-use Rattle.runner.specs.Playing.{ended_with, ended_empty, AllZero}
 
-module _ {A : Type 0} {o : Option A} (b : Bool) (a : A) (e : o ≡ only_if b (some a)) where
-  pub turned_down : not b ≡ true → o ≡ none
-  unfolding only_if
-  turned_down n = e ∙ rw (not-true b n)
+-- an empty state has nothing in its arrays
+pub all_zero : {s : State} → s ≡ no_state → AllZero s
+unfolding no_state
+all_zero e =
+    record {
+      no_cells = ap (λ (t : State). t.cells) e;
+      no_kinds = ap (λ (t : State). t.kinds) e;
+      no_marks = ap (λ (t : State). t.marks) e;
+      no_classes = ap (λ (t : State). t.classes) e;
+      no_heap = ap (λ (t : State). t.heap) e;
+      no_statics = ap (λ (t : State). t.statics) e;
+    }
 
-  pub let_in : not b ≡ false → o ≡ some a
-  unfolding only_if
-  let_in n = e ∙ rw (not-false b n)
+-- with arguments laid in one
+module _ (L : Loaded) (given : List ℕ) {s₀ s : State} (z : AllZero s₀)
+    (e : s ≡ pick true (with_frames s₀ (copy_of (method_cell L.methods L.counts.entry 28) given 0 0 s₀.cells) s₀.marks) s₀) where
+  pub laid_so : s.cells ≡ laid L.methods L.counts.entry given
+  unfolding laid pick
+  laid_so = ap (λ (t : State). t.cells) e ∙ rw z.no_cells
 
--- what was done on admission
-pub done : {A : Type 0} {a : A} (b : Bool) (x y : A) → a ≡ pick b x y → not b ≡ false → a ≡ x
-unfolding pick
-done b x y e n = e ∙ ap (λ (t : Bool). pick t x y) (not-false b n)
-
--- what was left on a refusal
-pub undone : {A : Type 0} {a : A} (b : Bool) (x y : A) → a ≡ pick b x y → not b ≡ true → a ≡ y
-unfolding pick
-undone b x y e n = e ∙ ap (λ (t : Bool). pick t x y) (not-true b n)
+  pub begun_so : Begun L s
+  unfolding pick
+  begun_so =
+      record {
+        given = given;
+        arguments = laid_so;
+        no_kinds = ap (λ (t : State). t.kinds) e ∙ z.no_kinds;
+        no_marks = ap (λ (t : State). t.marks) e ∙ z.no_marks;
+        no_classes = ap (λ (t : State). t.classes) e ∙ z.no_classes;
+        no_heap = ap (λ (t : State). t.heap) e ∙ z.no_heap;
+        no_statics = ap (λ (t : State). t.statics) e ∙ z.no_statics;
+      }
 
 module _ (M : Module) (given : List ℕ) (budget : ℕ) (r : Ended) where
   pub not_admitted : admit (method_at M.methods M.entry).params given ≡ none
@@ -50,12 +69,6 @@ module _ (M : Module) (given : List ℕ) (budget : ℕ) (r : Ended) where
     pub was_run : budget ≤ 1000000 → {x : Ended} → r ≡ x → Tells (steps lowest_free M budget 0 (first M vs)) x → Answers (run_module M given budget) r
     unfolding Answers run_module need guard ◌>>=◌
     was_run b {x} e h = rw (admitted, le-leb budget 1000000 b) (subst (Tells (steps lowest_free M budget 0 (first M vs))) (sym e) h)
-
--- a refusal, and arrays in which all is 0
-pub all_zero : {s : Summary} (f : Refusal) {cells kinds marks classes heap statics : List ℕ} → ended_empty s ≡ refused_by f
-    → AllZero cells kinds marks classes heap statics → ended_with s cells kinds marks classes heap statics ≡ refused_by f
-unfolding ended_empty
-all_zero f e z = rw (z.no_cells, z.no_kinds, z.no_marks, z.no_classes, z.no_heap, z.no_statics) e
 
 -- an answer handed on as it is
 pub the_same : (a : Answer Refusal Run.Ended) {r x : Ended} → r ≡ x → Answers a x → Answers a r

@@ -13,15 +13,15 @@ use Rattle.loaded.specs.declared.Loaded.{Loaded}
 use Rattle.state.specs.View.{Regs, Work, seen, view}
 use Rattle.state.specs.Order.{Fine, tables_of, Good}
 use Rattle.state.specs.Work.{Tables}
-use Rattle.state.specs.Layout.{first_w}
+use Rattle.state.specs.declared.State.{State}
+use Rattle.state.specs.Layout.{work_of, first_w}
 use Rattle.state.specs.Meets.{Few}
 use Rattle.across_frames.specs.Lent.{on_leave, RowRanges}
 use Rattle.faithful.proofs.Rows.{row_in, every, arguments_few, locals_few, initialiser_few}
 use Rattle.faithful.proofs.Begins.{first_good, first_view, first_bounded}
 use Rattle.faithful.proofs.Admits.{admits}
-use Rattle.between_steps.specs.Running.{lent_work}
 use Rattle.begin_end.specs.Admission.{Words}
-use Rattle.begin_end.specs.Beginning.{blank_w}
+use Rattle.begin_end.specs.Beginning.{blank_w, with_frames}
 use Rattle.machine.specs.Ending.{Sets}
 use Rattle.runner.specs.Answers.{Loads}
 use Rattle.runner.specs.Playing.{laid, Begun}
@@ -63,19 +63,19 @@ module _ {code : List ℕ} {L : Loaded} (l : Loads code L) where
 abbrev pub begins : Loaded → Tables
 begins L = tables_of L [] [] []
 
--- the registers and arrays after the first frames, for whatever arguments were laid in the cells
-abbrev pub Firsts : Loaded → List ℕ → List ℕ → Regs → List ℕ → List ℕ → Type 0
-Firsts L cells₀ marks₀ g cells marks =
+-- the registers, cells and marks after the first frames, for whatever arguments were laid in the cells
+abbrev pub Firsts : Loaded → State → Regs → List ℕ → List ℕ → Type 0
+Firsts L s₀ g cells marks =
     (P : Tables) (given : List ℕ) → P.methods ≡ L.methods → P.initialisers ≡ L.initialisers
-    → cells₀ ≡ laid L.methods L.counts.entry given → marks₀ ≡ replicate 33 0
+    → s₀.cells ≡ laid L.methods L.counts.entry given → s₀.marks ≡ replicate 33 0
     → on_leave blank_w g cells (replicate 2048 0) marks (replicate 256 0) ≡ first_w P L.counts.entry given
 
-pub first_work : (L : Loaded) {cells₀ kinds marks₀ classes heap statics : List ℕ}
-    → Begun L.methods L.counts.entry cells₀ kinds marks₀ classes heap statics
-    → {g : Regs} {cells marks : List ℕ} → Firsts L cells₀ marks₀ g cells marks → (given : List ℕ) → cells₀ ≡ laid L.methods L.counts.entry given
-    → lent_work g cells kinds marks classes heap statics ≡ first_w (begins L) L.counts.entry given
+pub first_work : (L : Loaded) {s₀ s : State} → Begun L s₀ → s ≡ with_frames s₀ s.cells s.marks
+    → {g : Regs} → Firsts L s₀ g s.cells s.marks → (given : List ℕ) → s₀.cells ≡ laid L.methods L.counts.entry given
+    → work_of g s ≡ first_w (begins L) L.counts.entry given
 unfolding tables_of
-first_work L b f given e = rw (b.no_kinds, b.no_classes, b.no_heap, b.no_statics) (f (begins L) given refl refl e b.no_marks)
+first_work L {s₀} {s} b r {g} f given e =
+    ap (work_of g) r ∙ rw (b.no_kinds, b.no_classes, b.no_heap, b.no_statics) (f (begins L) given refl refl e b.no_marks)
 
 module _ (M : Module) (fin : Fine M) {code : List ℕ} {L : Loaded} (hold : Holds M code L)
     (given : List ℕ) {c : Work} (begun : c ≡ first_w (begins L) L.counts.entry given) where
@@ -103,3 +103,8 @@ module _ (M : Module) (fin : Fine M) {code : List ℕ} {L : Loaded} (hold : Hold
   seen_first vs w a =
       let v : view M c ≡ first M (seen (arguments (method_at M.methods M.entry)) given 0) = rw at_entry (first_view M fin code L hold [] [] [] given) in
       v ∙ rw (entry_arguments, admits (method_at M.methods M.entry).params given vs (λ i. (w.word i).fits) a)
+
+-- a loaded module and a state with arguments laid: the loop can begin
+pub begins_so : {code : List ℕ} {L : Loaded} {s₀ s : State} (l : Loads code L) → Begun L s₀ → s ≡ with_frames s₀ s.cells s.marks
+    → {g : Regs} → Firsts L s₀ g s.cells s.marks → Sets code L (work_of g s)
+begins_so l b r f = sets_first l.module_is l.fine l.holds b.given (first_work _ b r f b.given b.arguments)

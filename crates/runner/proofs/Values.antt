@@ -1,6 +1,6 @@
 -- Values as they are handed out.
 use Prim.Native.Nat.{ℕ, zero, suc, ◌+◌, ◌-◌, ◌%◌, ◌<◌}
-use mathlib.Core.Path.{◌≡◌, refl, ap, ◌∙◌}
+use mathlib.Core.Path.{◌≡◌, refl, sym, ap, ◌∙◌}
 use mathlib.Core.Bool.{Bool, true, false}
 use mathlib.Core.Option.{none, some}
 use native.Mathlib.Omega.{arith}
@@ -16,6 +16,7 @@ use Rattle.integers.specs.Cells.{low}
 use Rattle.state.specs.View.{Work, refer_to, value_by, cell}
 use Rattle.state.specs.Work.{due_of_byte, value_due}
 use Rattle.state.specs.Layout.{signed32}
+use Rattle.begin_end.proofs.Signing.{signed_low}
 use Rattle.line.specs.Values.{value_of}
 use Rattle.line.specs.declared.line.Value.TheVariants.{Int32, Int64, Real, Null, Object}
 use Rattle.runner.specs.Answers.{value_in}
@@ -23,16 +24,9 @@ use Rattle.runner.specs.Playing.{returned}
 
 -- ---- An int32 with its sign
 
-signed_low : (b : ℕ) → of_z w64 (to_z w32 (b % 4294967296)) ≡ signed32 (b % 4294967296)
-unfolding signed32 pick
-signed_low b =
-    let l : b % 4294967296 < 4294967296 = omega arith in
-    let z : b % 4294967296 % 4294967296 ≡ b % 4294967296 = omega arith in
-    rw z (go (b % 4294967296) (ltb (b % 4294967296) 2147483648) l)
-  where
-    go : (x : ℕ) (t : Bool) → x < 4294967296 → of_z w64 (sel t (pos x) (negsuc (4294967296 - suc x))) ≡ pick t x (x + 18446744069414584320)
-    go x true l = refl
-    go x false l = omega arith
+signed_twice : (b : ℕ) → signed32 (b % 4294967296) ≡ signed32 b
+unfolding signed32
+signed_twice b = let z : b % 4294967296 % 4294967296 ≡ b % 4294967296 = omega arith in rw z
 
 low_signed : (b : ℕ) → signed32 b % 4294967296 ≡ b % 4294967296
 unfolding signed32 pick
@@ -50,7 +44,7 @@ module _ (k b : ℕ) where
 
   pub int32_value : (n : ℕ) → k ≡ 1 → n ≡ of_z w64 (to_z w32 (low w32 b)) → Int32 n ≡ value_in (some (value_by k b))
   unfolding value_in value_by
-  int32_value n e z = rw (e, z) (ap Int32 (signed_low b))
+  int32_value n e z = rw (e, z) (ap Int32 (signed_low b ∙ sym (signed_twice b)))
 
   pub int64_value : k ≡ 2 → Int64 b ≡ value_in (some (value_by k b))
   unfolding value_in value_by

@@ -14,6 +14,8 @@ use Rattle.line.specs.Values.{value_of}
 use Rattle.line.specs.declared.line.Value.{Value}
 use Rattle.line.specs.declared.line.Value.TheVariants.{None, Int32, Int64, Real, Null, Object}
 use Rattle.runner.specs.declared.Ended.{Ended}
+use Rattle.runner.specs.declared.Reason.{Reason}
+use Rattle.runner.specs.declared.Reason.TheVariants.{Arguments, Budget}
 
 -- a module that was loaded, in its arrays
 pub record Loads (code : List ℕ) (L : Loaded) : Type 0 where
@@ -39,6 +41,11 @@ told e =
       value = value_in e.value;
       state = lay_out e.state;
     }
+
+-- the number of a refusal of the run
+unfoldable pub number_of : Reason → ℕ
+number_of Arguments = 21
+number_of Budget = 22
 
 -- nothing is run: the refusal's number and place, and all else is 0
 unfoldable pub refused_by : Refusal → Ended

@@ -1,4 +1,4 @@
--- What is told of a run beside its arrays, and what a run from arguments laid in the first frame comes to.
+-- What is told of a run beside its state, and what a run from arguments laid in the first frame comes to.
 use Rattle.std.specs.Prelude.{ℕ, ◌≡◌, List, replicate, eqb}
 use Rattle.std.proofs.Math.Option.{Option, none, some}
 use Rattle.model.specs.Answer.{pick}
@@ -8,12 +8,13 @@ use Rattle.model.specs.Step.{lowest_free}
 use Rattle.model.specs.Run.{admit, first, steps}
 use Rattle.loaded.specs.Holds.{method_cell, Holds}
 use Rattle.loaded.specs.declared.Loaded.{Loaded}
+use Rattle.state.specs.declared.State.{State}
 use Rattle.state.specs.View.{value_by}
 use Rattle.state.specs.Order.{Fine}
 use Rattle.state.specs.Work.{copy_of, EndedW}
 use Rattle.begin_end.specs.Admission.{Words}
 use Rattle.runner.specs.declared.Ended.{Ended}
-use Rattle.runner.specs.declared.playing.Summary.{Summary}
+use Rattle.runner.specs.declared.summary.Summary.{Summary}
 use Rattle.runner.specs.Answers.{value_in, Tells}
 
 -- the value that a method returns, by the byte of its return type
@@ -27,45 +28,34 @@ summed x =
       end = record { number = x.ending; method = x.work.regs.row; offset = x.work.regs.at };
       steps = x.steps;
       value = value_in x.value;
-      live = x.live;
     }
 
--- with the arrays of its state
-abbrev pub ended_with : Summary → List ℕ → List ℕ → List ℕ → List ℕ → List ℕ → List ℕ → Ended
-ended_with s cells kinds marks classes heap statics =
-    record {
-      end = s.end;
-      steps = s.steps;
-      value = s.value;
-      state = record { live = s.live; cells = cells; kinds = kinds; statics = statics; marks = marks; classes = classes; heap = heap };
-    }
+-- with the state
+abbrev pub ended_with : Summary → State → Ended
+ended_with s state = record { end = s.end; steps = s.steps; value = s.value; state = state }
 
--- a summary with arrays in which all is 0
-unfoldable pub ended_empty : Summary → Ended
-ended_empty s = ended_with s (replicate 2048 0) (replicate 2048 0) (replicate 33 0) (replicate 256 0) (replicate 2048 0) (replicate 64 0)
-
--- the arrays of a state in which all is 0
-pub record AllZero (cells kinds marks classes heap statics : List ℕ) : Type 0 where
-  pub no_cells : cells ≡ replicate 2048 0
-  pub no_kinds : kinds ≡ replicate 2048 0
-  pub no_marks : marks ≡ replicate 33 0
-  pub no_classes : classes ≡ replicate 256 0
-  pub no_heap : heap ≡ replicate 2048 0
-  pub no_statics : statics ≡ replicate 64 0
+-- a state in whose arrays all is 0
+pub record AllZero (s : State) : Type 0 where
+  pub no_cells : s.cells ≡ replicate 2048 0
+  pub no_kinds : s.kinds ≡ replicate 2048 0
+  pub no_marks : s.marks ≡ replicate 33 0
+  pub no_classes : s.classes ≡ replicate 256 0
+  pub no_heap : s.heap ≡ replicate 2048 0
+  pub no_statics : s.statics ≡ replicate 64 0
 
 -- cells that are 0 but for arguments of the entry
 unfoldable pub laid : List ℕ → ℕ → List ℕ → List ℕ
 laid methods entry given = copy_of (method_cell methods entry 28) given 0 0 (replicate 2048 0)
 
--- the arrays before a run: all is 0 but for the arguments
-pub record Begun (methods : List ℕ) (entry : ℕ) (cells kinds marks classes heap statics : List ℕ) : Type 0 where
+-- a state before a run: all is 0 but for the arguments
+pub record Begun (L : Loaded) (s : State) : Type 0 where
   pub given : List ℕ
-  pub arguments : cells ≡ laid methods entry given
-  pub no_kinds : kinds ≡ replicate 2048 0
-  pub no_marks : marks ≡ replicate 33 0
-  pub no_classes : classes ≡ replicate 256 0
-  pub no_heap : heap ≡ replicate 2048 0
-  pub no_statics : statics ≡ replicate 64 0
+  pub arguments : s.cells ≡ laid L.methods L.counts.entry given
+  pub no_kinds : s.kinds ≡ replicate 2048 0
+  pub no_marks : s.marks ≡ replicate 33 0
+  pub no_classes : s.classes ≡ replicate 256 0
+  pub no_heap : s.heap ≡ replicate 2048 0
+  pub no_statics : s.statics ≡ replicate 64 0
 
 -- what is told is the model's run, where the cells have arguments that the entry takes
 unfoldable pub Plays : List ℕ → Loaded → List ℕ → ℕ → Ended → Type 0

@@ -8,7 +8,7 @@ use Rattle.model.specs.State.{Value, vint32, vint64, v_f, vnull, vobject, Object
 use Rattle.model.specs.State as Model
 use Rattle.loaded.specs.Holds.{method_cell}
 use Rattle.state.specs.declared.State.{State}
-use Rattle.state.specs.View.{Work, span, depth_of, method_of}
+use Rattle.state.specs.View.{Regs, Work, span, depth_of, method_of}
 use Rattle.state.specs.Work.{Tables, with_cells, copy_of, entered}
 
 -- ---- How a state of the model lies in the arrays
@@ -77,6 +77,10 @@ lay_out s =
       classes = span (λ r. from (λ (o : Object). o.class) (slice_index_or s.heap r none)) 0 256;
       heap = span (λ i. from (object_cell (i % 8)) (slice_index_or s.heap (i / 8) none)) 0 2048;
     }
+
+-- the work that the arrays of a state are, at these registers
+abbrev pub work_of : Regs → State → Work
+work_of g s = record { regs = g; cells = s.cells; kinds = s.kinds; statics = s.statics; marks = s.marks; classes = s.classes; heap = s.heap }
 
 -- no state: where nothing was run
 unfoldable pub no_state : State

@@ -4,7 +4,9 @@ use native.Mathlib.Omega.{arith}
 use Rattle.state.specs.View.{Regs}
 use Rattle.state.specs.Work.{Tables, due_of_byte}
 use Rattle.state.specs.Order.{tables_of}
-use Rattle.between_steps.specs.Running.{lent_tables, lent_work, lent_loaded}
+use Rattle.state.specs.Meets.{regs_of}
+use Rattle.state.specs.Layout.{work_of}
+use Rattle.between_steps.specs.Running.{lent_tables, lent_work}
 use Rattle.between_steps.proofs.Order.{frame_few, row_few, part_inside}
 use Rattle.same_frame.specs.Stays.{Place}
 use Rattle.same_frame.proofs.Stepped.{moves_in, one_less}
@@ -39,36 +41,36 @@ ancestors-requires c = refl
 pub choices-requires : goal.choices-requires
 choices-requires c = refl
 
-pub loop-how-init : goal.loop-how-init
-loop-how-init c =
+pub loop-last-init : goal.loop-last-init
+loop-last-init c =
     let A = c.args in
     let S = c.requires in
-    let L = lent_loaded A.counts A.parents.now A.initialisers.now A.fields.now A.methods.now A.parts.now in
+    let L = A.loaded.now in
     let made = makes S.module_is A.code.now L _ _ _ S.fine S.holds c.variables.ensures c.ancestors.ensures (c.choices.ensures S.module_is A.code.now L S.fine S.holds refl refl refl) in
     (omega arith, (λ _. from_start (begins_so c.variables.new.variables c.ancestors.new.sets c.choices.new.chosen S made), λ n. absurd (n refl)))
 
 pub stay-y-requires : goal.stay-y-requires
 stay-y-requires c =
-    let g = c.loop-how.invariant.1.0 c.loop-how-test.true in (frame_few g.begins, row_few g.begins)
+    let g = c.loop-last.invariant.1.0 c.loop-last-test.true in (frame_few g.begins, row_few g.begins)
 
 pub body-part-requires : goal.body-part-requires
 body-part-requires c =
-    let b = (c.loop-how.invariant.1.0 c.loop-how-test.true).begins in (row_few b, part_inside b)
+    let b = (c.loop-last.invariant.1.0 c.loop-last-test.true).begins in (row_few b, part_inside b)
 
 pub same_frame-s-requires : goal.same_frame-s-requires
 same_frame-s-requires c =
     let A = c.args in
-    let P = lent_tables A.counts A.methods.now A.fields.now A.parts.now A.initialisers.now c.variables.new.variables c.ancestors.new.sets c.choices.new.chosen in
-    let l = c.loop-how in
-    let g : Regs = record { fp = l.fp; row = l.row; at = l.at; sp = l.sp; made = l.made } in
+    let P = lent_tables A.loaded.now.counts A.loaded.now.methods A.loaded.now.fields A.loaded.now.parts A.loaded.now.initialisers c.variables.new.variables c.ancestors.new.sets c.choices.new.chosen in
+    let l = c.loop-last in
+    let g : Regs = regs_of l.last in
     let p : Place A.code.now P c.stay-y.result c.body-part.result.now g = place_of g c.stay-y.ensures c.body-part.ensures in
     record {
       code = A.code.now;
       tables = P;
-      work = lent_work g l.cells l.kinds l.marks l.classes l.heap l.statics;
+      work = work_of g l.state;
       lends = lent;
       place = p;
-      begins = (l.invariant.1.0 c.loop-how-test.true).begins;
+      begins = (l.invariant.1.0 c.loop-last-test.true).begins;
     }
 
 -- ---- After a stay
@@ -77,26 +79,26 @@ same_frame-s-requires c =
 ends_late : (how : ℕ) → 30 < how → how ≡ 0 → ⊥
 ends_late how h e = absurd (omega arith)
 
-pub loop-how-smaller-then-s-eq0 : goal.loop-how-smaller-then-s-eq0
-loop-how-smaller-then-s-eq0 c =
+pub loop-last-smaller-then-s-eq0 : goal.loop-last-smaller-then-s-eq0
+loop-last-smaller-then-s-eq0 c =
     let A = c.args in
-    let P = lent_tables A.counts A.methods.now A.fields.now A.parts.now A.initialisers.now c.variables.new.variables c.ancestors.new.sets c.choices.new.chosen in
-    let l = c.loop-how in
-    let g : Regs = record { fp = l.fp; row = l.row; at = l.at; sp = l.sp; made = l.made } in
+    let P = lent_tables A.loaded.now.counts A.loaded.now.methods A.loaded.now.fields A.loaded.now.parts A.loaded.now.initialisers c.variables.new.variables c.ancestors.new.sets c.choices.new.chosen in
+    let l = c.loop-last in
+    let g : Regs = regs_of l.last in
     let p : Place A.code.now P c.stay-y.result c.body-part.result.now g = place_of g c.stay-y.ensures c.body-part.ensures in
     let s = c.same_frame-s in
-    let k = s.ensures.came A.code.now P (lent_work g l.cells l.kinds l.marks l.classes l.heap l.statics) A.budget _ lent p l.invariant.0 (l.invariant.1.0 c.loop-how-test.true) in
-    less_going _ _ _ _ c.loop-how-test.true s.ensures.left_at_most (ends_late _ (k.late c.if-s-eq0.true))
+    let k = s.ensures.came A.code.now P (work_of g l.state) A.budget _ lent p l.invariant.0 (l.invariant.1.0 c.loop-last-test.true) in
+    less_going _ _ _ _ c.loop-last-test.true s.ensures.left_at_most (ends_late _ (k.late c.if-s-eq0.true))
 
-pub loop-how-preserved-then-s-eq0 : goal.loop-how-preserved-then-s-eq0
-loop-how-preserved-then-s-eq0 c =
+pub loop-last-preserved-then-s-eq0 : goal.loop-last-preserved-then-s-eq0
+loop-last-preserved-then-s-eq0 c =
     let A = c.args in
-    let P = lent_tables A.counts A.methods.now A.fields.now A.parts.now A.initialisers.now c.variables.new.variables c.ancestors.new.sets c.choices.new.chosen in
-    let l = c.loop-how in
-    let g : Regs = record { fp = l.fp; row = l.row; at = l.at; sp = l.sp; made = l.made } in
+    let P = lent_tables A.loaded.now.counts A.loaded.now.methods A.loaded.now.fields A.loaded.now.parts A.loaded.now.initialisers c.variables.new.variables c.ancestors.new.sets c.choices.new.chosen in
+    let l = c.loop-last in
+    let g : Regs = regs_of l.last in
     let p : Place A.code.now P c.stay-y.result c.body-part.result.now g = place_of g c.stay-y.ensures c.body-part.ensures in
     let s = c.same_frame-s in
-    let k = s.ensures.came A.code.now P (lent_work g l.cells l.kinds l.marks l.classes l.heap l.statics) A.budget _ lent p l.invariant.0 (l.invariant.1.0 c.loop-how-test.true) in
+    let k = s.ensures.came A.code.now P (work_of g l.state) A.budget _ lent p l.invariant.0 (l.invariant.1.0 c.loop-last-test.true) in
     let few : s.result.left ≤ A.budget = omega (arith, s.ensures.left_at_most, l.invariant.0) in
     let z = c.if-s-eq0.true in
     (few, (λ e. absurd (ends_late _ (k.late z) e), λ n. (halts_with _ _ _ _ (k.late z) ∙ k.stops z, λ e. absurd (omega (arith, k.late z, e)))))
@@ -104,12 +106,12 @@ loop-how-preserved-then-s-eq0 c =
 pub cross-r-requires : goal.cross-r-requires
 cross-r-requires c =
     let A = c.args in
-    let P = lent_tables A.counts A.methods.now A.fields.now A.parts.now A.initialisers.now c.variables.new.variables c.ancestors.new.sets c.choices.new.chosen in
-    let l = c.loop-how in
-    let g : Regs = record { fp = l.fp; row = l.row; at = l.at; sp = l.sp; made = l.made } in
+    let P = lent_tables A.loaded.now.counts A.loaded.now.methods A.loaded.now.fields A.loaded.now.parts A.loaded.now.initialisers c.variables.new.variables c.ancestors.new.sets c.choices.new.chosen in
+    let l = c.loop-last in
+    let g : Regs = regs_of l.last in
     let p : Place A.code.now P c.stay-y.result c.body-part.result.now g = place_of g c.stay-y.ensures c.body-part.ensures in
     let s = c.same_frame-s in
-    let k = s.ensures.came A.code.now P (lent_work g l.cells l.kinds l.marks l.classes l.heap l.statics) A.budget _ lent p l.invariant.0 (l.invariant.1.0 c.loop-how-test.true) in
+    let k = s.ensures.came A.code.now P (work_of g l.state) A.budget _ lent p l.invariant.0 (l.invariant.1.0 c.loop-last-test.true) in
     let few : s.result.left ≤ A.budget = omega (arith, s.ensures.left_at_most, l.invariant.0) in
     let n = c.if-s-eq0.false in
     let m = k.leaves n in
@@ -121,78 +123,78 @@ cross-r-requires c =
 pub overflow_sub-left : goal.overflow_sub-left
 overflow_sub-left c =
     let A = c.args in
-    let P = lent_tables A.counts A.methods.now A.fields.now A.parts.now A.initialisers.now c.variables.new.variables c.ancestors.new.sets c.choices.new.chosen in
-    let l = c.loop-how in
-    let g : Regs = record { fp = l.fp; row = l.row; at = l.at; sp = l.sp; made = l.made } in
+    let P = lent_tables A.loaded.now.counts A.loaded.now.methods A.loaded.now.fields A.loaded.now.parts A.loaded.now.initialisers c.variables.new.variables c.ancestors.new.sets c.choices.new.chosen in
+    let l = c.loop-last in
+    let g : Regs = regs_of l.last in
     let p : Place A.code.now P c.stay-y.result c.body-part.result.now g = place_of g c.stay-y.ensures c.body-part.ensures in
     let s = c.same_frame-s in
-    let k = s.ensures.came A.code.now P (lent_work g l.cells l.kinds l.marks l.classes l.heap l.statics) A.budget _ lent p l.invariant.0 (l.invariant.1.0 c.loop-how-test.true) in
+    let k = s.ensures.came A.code.now P (work_of g l.state) A.budget _ lent p l.invariant.0 (l.invariant.1.0 c.loop-last-test.true) in
     (k.leaves c.if-s-eq0.false).more
 
-pub loop-how-smaller-then-how-eq-ON : goal.loop-how-smaller-then-how-eq-ON
-loop-how-smaller-then-how-eq-ON c =
+pub loop-last-smaller-then-r-eq-ON : goal.loop-last-smaller-then-r-eq-ON
+loop-last-smaller-then-r-eq-ON c =
     let A = c.args in
-    let P = lent_tables A.counts A.methods.now A.fields.now A.parts.now A.initialisers.now c.variables.new.variables c.ancestors.new.sets c.choices.new.chosen in
-    let l = c.loop-how in
-    let g : Regs = record { fp = l.fp; row = l.row; at = l.at; sp = l.sp; made = l.made } in
+    let P = lent_tables A.loaded.now.counts A.loaded.now.methods A.loaded.now.fields A.loaded.now.parts A.loaded.now.initialisers c.variables.new.variables c.ancestors.new.sets c.choices.new.chosen in
+    let l = c.loop-last in
+    let g : Regs = regs_of l.last in
     let p : Place A.code.now P c.stay-y.result c.body-part.result.now g = place_of g c.stay-y.ensures c.body-part.ensures in
     let s = c.same_frame-s in
-    let k = s.ensures.came A.code.now P (lent_work g l.cells l.kinds l.marks l.classes l.heap l.statics) A.budget _ lent p l.invariant.0 (l.invariant.1.0 c.loop-how-test.true) in
+    let k = s.ensures.came A.code.now P (work_of g l.state) A.budget _ lent p l.invariant.0 (l.invariant.1.0 c.loop-last-test.true) in
     let few : s.result.left ≤ A.budget = omega (arith, s.ensures.left_at_most, l.invariant.0) in
     let n = c.if-s-eq0.false in
     let m = k.leaves n in
-    less_left l.left (s.result.left - 1) _ c.cross-r.result.how c.loop-how-test.true (omega (arith, m.more, s.ensures.left_at_most))
+    less_left l.left (s.result.left - 1) _ c.cross-r.result.how c.loop-last-test.true (omega (arith, m.more, s.ensures.left_at_most))
 
-pub loop-how-preserved-then-how-eq-ON : goal.loop-how-preserved-then-how-eq-ON
-loop-how-preserved-then-how-eq-ON c =
+pub loop-last-preserved-then-r-eq-ON : goal.loop-last-preserved-then-r-eq-ON
+loop-last-preserved-then-r-eq-ON c =
     let A = c.args in
-    let P = lent_tables A.counts A.methods.now A.fields.now A.parts.now A.initialisers.now c.variables.new.variables c.ancestors.new.sets c.choices.new.chosen in
-    let l = c.loop-how in
-    let g : Regs = record { fp = l.fp; row = l.row; at = l.at; sp = l.sp; made = l.made } in
+    let P = lent_tables A.loaded.now.counts A.loaded.now.methods A.loaded.now.fields A.loaded.now.parts A.loaded.now.initialisers c.variables.new.variables c.ancestors.new.sets c.choices.new.chosen in
+    let l = c.loop-last in
+    let g : Regs = regs_of l.last in
     let p : Place A.code.now P c.stay-y.result c.body-part.result.now g = place_of g c.stay-y.ensures c.body-part.ensures in
     let s = c.same_frame-s in
-    let k = s.ensures.came A.code.now P (lent_work g l.cells l.kinds l.marks l.classes l.heap l.statics) A.budget _ lent p l.invariant.0 (l.invariant.1.0 c.loop-how-test.true) in
+    let k = s.ensures.came A.code.now P (work_of g l.state) A.budget _ lent p l.invariant.0 (l.invariant.1.0 c.loop-last-test.true) in
     let few : s.result.left ≤ A.budget = omega (arith, s.ensures.left_at_most, l.invariant.0) in
     let n = c.if-s-eq0.false in
     let m = k.leaves n in
     let h = moves_in s.result.at s.result.sp p in
-    let after = lent_work (record { fp = l.fp; row = l.row; at = s.result.at; sp = s.result.sp; made = l.made }) s.new.cells s.new.kinds s.new.marks l.classes s.new.heap s.new.statics in (
+    let after = lent_work (record { fp = l.last.fp; row = l.last.row; at = s.result.at; sp = s.result.sp; made = l.last.made }) s.new.cells s.new.kinds s.new.marks l.state.classes s.new.heap s.new.statics in (
       omega (arith, few),
       (
         λ _. one_less m.more few (omega arith)
-            (goes _ k h n few m.crosses.inside _ _ _ _ (c.cross-r.ensures.leaves P after crossing_lent) c.if-how-eq-ON.true),
-        λ x. absurd (x c.if-how-eq-ON.true),
+            (goes _ k h n few m.crosses.inside _ _ _ _ (c.cross-r.ensures.leaves P after crossing_lent) c.if-r-eq-ON.true),
+        λ x. absurd (x c.if-r-eq-ON.true),
       ),
     )
 
-pub loop-how-smaller : goal.loop-how-smaller
-loop-how-smaller c =
+pub loop-last-smaller : goal.loop-last-smaller
+loop-last-smaller c =
     let A = c.args in
-    let P = lent_tables A.counts A.methods.now A.fields.now A.parts.now A.initialisers.now c.variables.new.variables c.ancestors.new.sets c.choices.new.chosen in
-    let l = c.loop-how in
-    let g : Regs = record { fp = l.fp; row = l.row; at = l.at; sp = l.sp; made = l.made } in
+    let P = lent_tables A.loaded.now.counts A.loaded.now.methods A.loaded.now.fields A.loaded.now.parts A.loaded.now.initialisers c.variables.new.variables c.ancestors.new.sets c.choices.new.chosen in
+    let l = c.loop-last in
+    let g : Regs = regs_of l.last in
     let p : Place A.code.now P c.stay-y.result c.body-part.result.now g = place_of g c.stay-y.ensures c.body-part.ensures in
     let s = c.same_frame-s in
-    let k = s.ensures.came A.code.now P (lent_work g l.cells l.kinds l.marks l.classes l.heap l.statics) A.budget _ lent p l.invariant.0 (l.invariant.1.0 c.loop-how-test.true) in
-    less_going _ _ _ _ c.loop-how-test.true s.ensures.left_at_most c.if-how-eq-ON.false
+    let k = s.ensures.came A.code.now P (work_of g l.state) A.budget _ lent p l.invariant.0 (l.invariant.1.0 c.loop-last-test.true) in
+    less_going _ _ _ _ c.loop-last-test.true s.ensures.left_at_most c.if-r-eq-ON.false
 
-pub loop-how-preserved : goal.loop-how-preserved
-loop-how-preserved c =
+pub loop-last-preserved : goal.loop-last-preserved
+loop-last-preserved c =
     let A = c.args in
-    let P = lent_tables A.counts A.methods.now A.fields.now A.parts.now A.initialisers.now c.variables.new.variables c.ancestors.new.sets c.choices.new.chosen in
-    let l = c.loop-how in
-    let g : Regs = record { fp = l.fp; row = l.row; at = l.at; sp = l.sp; made = l.made } in
+    let P = lent_tables A.loaded.now.counts A.loaded.now.methods A.loaded.now.fields A.loaded.now.parts A.loaded.now.initialisers c.variables.new.variables c.ancestors.new.sets c.choices.new.chosen in
+    let l = c.loop-last in
+    let g : Regs = regs_of l.last in
     let p : Place A.code.now P c.stay-y.result c.body-part.result.now g = place_of g c.stay-y.ensures c.body-part.ensures in
     let s = c.same_frame-s in
-    let k = s.ensures.came A.code.now P (lent_work g l.cells l.kinds l.marks l.classes l.heap l.statics) A.budget _ lent p l.invariant.0 (l.invariant.1.0 c.loop-how-test.true) in
+    let k = s.ensures.came A.code.now P (work_of g l.state) A.budget _ lent p l.invariant.0 (l.invariant.1.0 c.loop-last-test.true) in
     let few : s.result.left ≤ A.budget = omega (arith, s.ensures.left_at_most, l.invariant.0) in
     let n = c.if-s-eq0.false in
     let m = k.leaves n in
     let h = moves_in s.result.at s.result.sp p in
-    let after = lent_work (record { fp = l.fp; row = l.row; at = s.result.at; sp = s.result.sp; made = l.made }) s.new.cells s.new.kinds s.new.marks l.classes s.new.heap s.new.statics in (
+    let after = lent_work (record { fp = l.last.fp; row = l.last.row; at = s.result.at; sp = s.result.sp; made = l.last.made }) s.new.cells s.new.kinds s.new.marks l.state.classes s.new.heap s.new.statics in (
       few,
       (
-        λ e. absurd (c.if-how-eq-ON.false e),
+        λ e. absurd (c.if-r-eq-ON.false e),
         λ x. (
           stops _ k h n few m.crosses.inside _ _ _ _ (c.cross-r.ensures.leaves P after crossing_lent)
               _ (ap due_of_byte (due_is P after.regs h.stay_is)) x c.cross-r.ensures.never_result,
@@ -205,10 +207,10 @@ pub returns : goal.returns
 unfolding tables_of ended_by ends_with
 returns c =
     let A = c.args in
-    let L = lent_loaded A.counts A.parents.now A.initialisers.now A.fields.now A.methods.now A.parts.now in
-    let x = c.loop-how.invariant.1.1 c.loop-how-test.false in
+    let L = A.loaded.now in
+    let x = c.loop-last.invariant.1.1 c.loop-last-test.false in
     record {
-      result_range = (c.loop-how.invariant.0, x.1);
+      result_range = (c.loop-last.invariant.0, x.1);
       ends = λ M fin hold good.
           ends M A.code.now L c.variables.new.variables c.ancestors.new.sets c.choices.new.chosen fin hold
           (makes M A.code.now L _ _ _ fin hold c.variables.ensures c.ancestors.ensures (c.choices.ensures M A.code.now L fin hold refl refl refl))

@@ -1,13 +1,9 @@
-use mathlib.Core.Path.{refl}
-use Rattle.runner.proofs.Answering.{the_same}
+use Rattle.state.specs.Layout.{no_state}
+use Rattle.runner.proofs.Answering.{the_same, all_zero}
 use Rattle.runner.proofs.run.Goals as goal
 
-pub run_lent-s-requires : goal.run_lent-s-requires
-run_lent-s-requires c =
-    record {
-      loads = c.requires;
-      zeros = record { no_cells = refl; no_kinds = refl; no_marks = refl; no_classes = refl; no_heap = refl; no_statics = refl };
-    }
+pub run_lent-summary-requires : goal.run_lent-summary-requires
+run_lent-summary-requires c = record { loads = c.requires; zeros = all_zero c.new-state.ensures }
 
 pub returns : goal.returns
-returns c = let t = c in λ M fin hold. the_same _ c.with_state.ensures (t.run_lent-s.ensures M fin hold)
+returns c = λ M fin hold. the_same _ c.with_state.ensures (c.run_lent-summary.ensures M fin hold)

@@ -1,16 +1,20 @@
 use mathlib.Core.Path.{refl, sym, ◌∙◌}
 use Rattle.model.specs.Answer.{pick, only_if}
+use native.Mathlib.Omega.{arith}
 use Rattle.begin_end.proofs.Admitting.{miscounted, turned_down, let_in}
+use Rattle.begin_end.proofs.Laying.{copied}
 use Rattle.begin_end.proofs.admission.admit.Goals as goal
 
-pub returns-then-given-wide : goal.returns-then-given-wide
+pub returns-then-count-from : goal.returns-then-count-from
 unfolding only_if pick
-returns-then-given-wide c = record { cells_is = refl; as_model = λ M code L H fine em en. miscounted M code L c.args.given.now H fine em en (λ e. c.if-given-wide.true (e ∙ sym c.wide.ensures.0)) }
+returns-then-count-from c = record { state_is = refl; as_model = λ M code H fine. miscounted M code _ c.args.given.now H fine (λ e. c.if-count-from.true (e ∙ sym c.from.ensures)) }
 
 pub returns-then-not-takes_all : goal.returns-then-not-takes_all
 unfolding only_if pick
-returns-then-not-takes_all c = record { cells_is = refl; as_model = λ M code L H fine em en. turned_down M code L c.args.given.now H fine em en c.requires.1 (c.if-given-wide.false ∙ c.wide.ensures.0) (record { word = λ j. c.type_inv.given j }) (sym c.takes_all.ensures ∙ c.if-not-takes_all.true) }
+returns-then-not-takes_all c = record { state_is = refl; as_model = λ M code H fine. turned_down M code _ c.args.given.now H fine (omega arith) (c.if-count-from.false ∙ c.from.ensures) (record { word = λ j. c.type_inv.given j }) _ (omega arith) (sym c.takes_all.ensures ∙ c.if-not-takes_all.true) }
 
 pub returns : goal.returns
 unfolding only_if pick
-returns c = record { cells_is = rw (← (c.if-given-wide.false ∙ c.wide.ensures.0)) c.lay.ensures; as_model = λ M code L H fine em en. let_in M code L c.args.given.now H fine em en c.requires.1 (c.if-given-wide.false ∙ c.wide.ensures.0) (record { word = λ j. c.type_inv.given j }) (sym c.takes_all.ensures ∙ c.if-not-takes_all.false) }
+returns c = record {
+  state_is = rw (← (c.if-count-from.false ∙ c.from.ensures), copied c.args.given.now c.args.state.now.cells (omega arith), c.copy_from_slice.ensures.after);
+  as_model = λ M code H fine. let_in M code _ c.args.given.now H fine (omega arith) (c.if-count-from.false ∙ c.from.ensures) (record { word = λ j. c.type_inv.given j }) _ (omega arith) (sym c.takes_all.ensures ∙ c.if-not-takes_all.false) }

@@ -1,16 +1,17 @@
-use Rattle.begin_end.proofs.Changing.{unchanged}
-use Rattle.begin_end.proofs.Tidied.{objects_more, objects_all, still_blank}
+use Prim.Native.Nat.{◌+◌, ◌-◌, ◌*◌}
+use lib.ListN.{get_or}
 use native.Mathlib.Omega.{arith}
+use Rattle.begin_end.proofs.Tidied.{objects_more, objects_all, object_left, no_object_left, still_blank}
 use Rattle.begin_end.proofs.ending.objects.Goals as goal
-
-pub loop-place-init : goal.loop-place-init
-loop-place-init c = (omega arith, omega arith, c.requires.placed, c.requires.blank, unchanged _ _ _)
-
-pub object-requires : goal.object-requires
-object-requires c = record { place_range = (omega arith, omega (arith, c.loop-place.invariant.4.long)); placed = c.loop-place.invariant.2; as_model = still_blank c.args.types.now c.args.classes.now _ c.loop-place.invariant.4 c.loop-place.invariant.3 }
+use Rattle.begin_end.proofs.ending.objects.Goals.{then-class-ne0, else-class-ne0}
 
 pub loop-place-preserved : goal.loop-place-preserved
-loop-place-preserved c = (omega arith, omega arith, c.loop-place.invariant.2, c.loop-place.invariant.3, objects_more c.args.types.now c.args.classes.now _ c.loop-place.invariant.4 c.object.ensures)
+loop-place-preserved c =
+    objects_more c.args.types.now c.args.classes.now _ c.loop-place.invariant
+    elim c.if-class-ne0.branch [
+      then-class-ne0 w ↦ rw (w.heap-is, ← w.from-fields.ensures) (object_left c.args.types.now w.from-fields.result c.loop-place.place c.loop-place.heap _ (omega arith) w.rewrite.ensures.long w.rewrite.ensures.each)
+      | else-class-ne0 w ↦ rw w.heap-is (no_object_left (λ j. get_or c.args.types.now (get_or c.args.classes.now c.loop-place.place 0 * 8 + (j - c.loop-place.place * 8)) 0) _ _ (λ j b. still_blank c.args.types.now c.args.classes.now _ c.loop-place.invariant c.requires.blank j b w.if-class-ne0.false))
+    ]
 
 pub returns : goal.returns
-returns c = objects_all c.args.types.now c.args.classes.now _ c.loop-place.invariant.4 (omega arith) (omega arith)
+returns c = objects_all c.args.types.now c.args.classes.now _ c.loop-place.invariant (omega arith) (omega arith)

@@ -1,12 +1,22 @@
+use mathlib.Core.Path.{◌≡◌, ◌∙◌}
+use native.Mathlib.Omega.{arith}
+use Rattle.state.specs.Layout.{save, tidy, tidy_kinds, tidy_statics}
 use Rattle.begin_end.specs.Ending.{saved_cells}
-use Rattle.begin_end.proofs.Tidied.{saved_long, saved_waits, waits_on, same_kinds}
+use Rattle.begin_end.proofs.Changing.{statics_all}
+use Rattle.begin_end.proofs.Tidied.{saved_waits, waits_on, same_kinds}
 use Rattle.begin_end.proofs.ending.tidy.Goals as goal
 
-pub frames-requires : goal.frames-requires
-frames-requires c = rw c.save.ensures (record { live_range = (c.requires.fp_range.2, saved_long c.args.fp c.args.at c.args.sp c.args.cells.now c.requires.cells_len.0); waiting = saved_waits c.args.fp c.args.at c.args.sp c.args.live c.args.cells.now c.requires.framed c.requires.fp_range.1 c.requires.fp_range.2 c.requires.saved c.requires.cells_len.0 })
+pub frames-requires-clause-waiting : goal.frames-requires-clause-waiting
+frames-requires-clause-waiting c = saved_waits c.args.last.fp c.args.last.at c.args.last.sp c.args.live c.args.state.now.cells c.requires.framed (omega arith) (omega arith) c.requires.saved (omega arith)
 
-pub all_kinds-requires : goal.all_kinds-requires
-all_kinds-requires c = rw (c.frames.ensures, c.save.ensures) (record { live_range = (c.requires.fp_range.2, c.requires.cells_len.1); waiting = waits_on c.args.methods.now (saved_cells c.args.fp c.args.at c.args.sp c.args.cells.now) c.args.kinds.now c.args.live c.requires.fp_range.2 (saved_waits c.args.fp c.args.at c.args.sp c.args.live c.args.cells.now c.requires.framed c.requires.fp_range.1 c.requires.fp_range.2 c.requires.saved c.requires.cells_len.0) })
+pub all_kinds-requires-clause-waiting : goal.all_kinds-requires-clause-waiting
+all_kinds-requires-clause-waiting c = rw c.frames.ensures (waits_on c.args.loaded.now.methods (saved_cells c.args.last.fp c.args.last.at c.args.last.sp c.args.state.now.cells) c.args.state.now.kinds c.args.live (omega arith) (saved_waits c.args.last.fp c.args.last.at c.args.last.sp c.args.live c.args.state.now.cells c.requires.framed (omega arith) (omega arith) c.requires.saved (omega arith)))
 
 pub returns : goal.returns
-returns c = record { cells_is = rw (c.frames.ensures, c.save.ensures); kinds_is = rw (c.all_kinds.ensures, c.frames.ensures, c.save.ensures) (same_kinds c.args.methods.now (saved_cells c.args.fp c.args.at c.args.sp c.args.cells.now) c.args.kinds.now c.args.live c.requires.fp_range.2); heap_is = c.objects.ensures; statics_is = c.all_statics.ensures }
+unfolding tidy save
+returns c =
+    let S = c.args.state.now in
+    let saved = saved_cells c.args.last.fp c.args.last.at c.args.last.sp c.args.state.now.cells in
+    let kinds : c.all_kinds.new.kinds ≡ tidy_kinds saved c.args.state.now.kinds c.args.live = rw c.frames.ensures at c.all_kinds.ensures ∙ same_kinds c.args.loaded.now.methods saved c.args.state.now.kinds c.args.live (omega arith) in
+    let statics : c.rewrite.new.cells ≡ tidy_statics c.args.static_types.now c.args.state.now.statics = statics_all c.args.static_types.now c.args.state.now.statics (omega arith) c.rewrite.ensures.long c.rewrite.ensures.each in
+    rw (c.frames.ensures, kinds, statics, c.objects.ensures)

@@ -7,6 +7,6 @@ pub returns-then-byte-eq0 : goal.returns-then-byte-eq0
 unfolding tidy_byte pick
 returns-then-byte-eq0 c = simp (eq-eqb _ _ c.if-byte-eq0.true)
 
-pub returns : goal.returns
+pub returns-else-byte-eq0 : goal.returns-else-byte-eq0
 unfolding tidy_byte pick
-returns c = simp (ne_eqb _ _ c.if-byte-eq0.false) c.shown.ensures
+returns-else-byte-eq0 c = simp (ne_eqb _ _ c.if-byte-eq0.false) c.shown.ensures

@@ -1,13 +1,11 @@
+use mathlib.Core.Path.{refl}
 use Rattle.runner.proofs.Telling.{told_over, told_halted}
 use Rattle.runner.proofs.playing.told.Goals as goal
-
-pub counted-steps-requires : goal.counted-steps-requires
-counted-steps-requires c = c.requires.r_range_2
-
-pub returns-then-r-eq-OVER : goal.returns-then-r-eq-OVER
-returns-then-r-eq-OVER c =
-    let t = c in
-    λ w regs kinds cells. told_over _ _ _ w regs _ _ t.counted-steps.ensures t.if-r-eq-OVER.true (rw (kinds, cells) c.value_due-value.ensures)
+use Rattle.runner.proofs.playing.told.Goals.{then-last-eq-OVER, else-last-eq-OVER}
 
 pub returns : goal.returns
-returns c = λ w regs kinds cells. told_halted _ _ _ w regs _ c.counted-steps.ensures c.if-r-eq-OVER.false
+returns c =
+    elim c.if-last-eq-OVER.branch [
+      then-last-eq-OVER w ↦ rw w.number-is (told_over _ _ _ c.args.state.now _ _ c.counted.ensures w.if-last-eq-OVER.true w.value_due.ensures)
+      | else-last-eq-OVER w ↦ rw w.number-is (told_halted _ _ _ c.args.state.now _ _ c.counted.ensures w.if-last-eq-OVER.false refl)
+    ]

@@ -1,0 +1,7 @@
+use mathlib.Core.Path.{refl}
+use Rattle.state.specs.Layout.{no_state}
+use Rattle.state.proofs.State.new.Goals as goal
+
+pub returns : goal.returns
+unfolding no_state
+returns c = refl
