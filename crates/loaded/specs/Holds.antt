@@ -1,9 +1,10 @@
 -- What the arrays of a loaded module hold: each cell the model's value, 0 where there is none.
-use Rattle.std.specs.Prelude.{ℕ, ◌+◌, ◌*◌, ◌<◌, ◌≡◌, List, length, get_or}
+use Rattle.std.specs.Prelude.{ℕ, ◌+◌, ◌*◌, ◌<◌, ◌≡◌, List, length, get_or, replicate}
 use Rattle.std.proofs.Math.Option.{Option, none, some}
 use Rattle.model.specs.Answer.{or_else, at, row, those}
 use Rattle.model.specs.Tables.{Ty, byte_of, sort_byte, Field, Method, Module, part_of, method_at, arguments, parent_of, is_static_field, slot, root, initialiser_of}
 use Rattle.model.specs.Operators.{flag}
+use Rattle.loaded.specs.declared.Counts.{Counts}
 use Rattle.loaded.specs.declared.Loaded.{Loaded}
 
 -- the byte of a type that may be missing: 0
@@ -80,3 +81,15 @@ pub record Holds (M : Module) (code : List ℕ) (L : Loaded) : Type 0 where
   pub by_class : HoldsClasses M.parents M.methods L
   pub by_field : HoldsFields M.parents M.fields L
   pub by_method : HoldsMethods M.methods code L
+
+-- ---- Nothing loaded
+
+abbrev pub zeros : ℕ → List ℕ
+zeros n = replicate n 0
+
+unfoldable pub no_counts : Counts
+no_counts = record { classes = 0; fields = 0; statics = 0; methods = 0; entry = 0 }
+
+-- a module in which all is 0
+unfoldable pub nothing : Loaded
+nothing = record { counts = no_counts; parents = zeros 33; initialisers = zeros 33; fields = zeros 516; methods = zeros 4128; parts = zeros 258 }

@@ -1,6 +1,9 @@
 // A loaded module in flat arrays, indexed by row, that the check and the machine use without reading the tables again; and what every layer says of a fault.
 #![tactic(auto)]
 
+ghost use Rattle.std.specs.Prelude.{◌≡◌};
+ghost use Rattle.loaded.specs.Holds.{nothing as nothing_of};
+
 pub mod columns; // what stands where in a row
 
 // A fault: its number, 0 where there is none, and its place. A refusal of loading has method 0, and the place in the tables as offset.
@@ -34,4 +37,26 @@ pub struct Loaded {
     pub methods: [u8; 4128],
     // 2 for each method row: offset and length of its code
     pub parts: [usize; 258],
+}
+
+// A module in which all is 0.
+impl Default for Loaded {
+    fn default() -> Loaded
+        ensures { result ≡ nothing_of }
+    {
+        Loaded {
+            counts: Counts {
+                classes: 0,
+                fields: 0,
+                statics: 0,
+                methods: 0,
+                entry: 0,
+            },
+            parents: [0u8; 33],
+            initialisers: [0u8; 33],
+            fields: [0u8; 516],
+            methods: [0u8; 4128],
+            parts: [0usize; 258],
+        }
+    }
 }

@@ -1,5 +1,6 @@
 -- What loading answers after the records, and what a loaded module holds.
 use mathlib.Core.Path.{◌≡◌, refl, sym, ap, ◌∙◌, subst}
+use Rattle.std.specs.Prelude.{Ok, Err, ⊤}
 use Prim.Native.Nat.{ℕ, zero, suc, ◌+◌, ◌-◌, ◌*◌, ◌≤◌, ◌<◌}
 use mathlib.Core.Bool.{Bool, false, ◌&&◌}
 use mathlib.Core.Option.{Option, none, some}
@@ -13,11 +14,11 @@ use Rattle.model.specs.Tables.{Method, Module, part_of, method_at, parent_of}
 use Rattle.model.specs.Loading.{Loading, Refusal, refusal, nothing, records, differs, agreed, load}
 use Rattle.loaded.specs.declared.Fault.{Fault}
 use Rattle.loaded.specs.declared.Counts.{Counts}
+use Rattle.loaded.specs.declared.Loaded.{Loaded}
 use Rattle.loaded.specs.Holds.{Holds}
 use Rattle.loader.specs.declared.order.Progress.{Progress}
 use Rattle.loader.specs.declared.records.Reading.{Reading}
-use Rattle.loader.specs.declared.Loads.{Loads}
-use Rattle.loader.specs.Answers.{fault_of, no_fault, no_counts, module_of, Answers, refused_of, taken_of, Reads}
+use Rattle.loader.specs.Answers.{fault_of, counts_of, Answers, Reads}
 use Rattle.loader.specs.Stands.{field_column, field_at, method_column, root_at, method_cell, part_cell, MethodCells, Sound, Arrays, Stands, progress_of, Earlier}
 use Rattle.loader.proofs.Rows.{first_least}
 use Rattle.loader.proofs.Methods.{argument_column, local_column}
@@ -26,23 +27,23 @@ use Rattle.loader.proofs.Reading.{refused_at}
 
 -- ---- An answer
 
--- a fault's number tells a refusal from a module
-module _ (m : Answer Refusal Module) (a : Fault) (P : Type 0) (Q : Module → Type 0) where
-  pub answers_refused : Answers m a P Q → (a.number ≡ 0 → ⊥) → (X : Type 0) (Y : Module → Type 0) → X → Answers m a X Y
-  unfolding Answers no_fault
-  answers_refused h n X Y x = go m h
+-- a fault tells a refusal from a module
+module _ {V : Type 0} (m : Answer Refusal Module) (P : Type 0) (Q : V → Module → Type 0) where
+  pub answers_refused : (a : Fault) → Answers m (Err a) P Q → {W : Type 0} (X : Type 0) (Y : W → Module → Type 0) → X → Answers {A = W} m (Err a) X Y
+  unfolding Answers
+  answers_refused a h X Y x = go m h
     where
-      go : (m : Answer Refusal Module) → Answers m a P Q → Answers m a X Y
+      go : (m : Answer Refusal Module) → Answers m (Err a) P Q → Answers m (Err a) X Y
       go (bad f) h = (h.0, h.1, x)
-      go (ok M) h = absurd (n (ap (λ (e : Fault). e.number) h.0))
+      go (ok M) h = absurd h
 
-  pub answers_loaded : Answers m a P Q → a.number ≡ 0 → (X : Type 0) (Y : Module → Type 0) → ((M : Module) → Q M → Y M) → Answers m a X Y
-  unfolding Answers fault_of
-  answers_loaded h z X Y f = go m h
+  pub answers_loaded : (v : V) → Answers m (Ok v) P Q → {W : Type 0} (X : Type 0) (Y : W → Module → Type 0) (w : W) → ((M : Module) → Q v M → Y w M) → Answers m (Ok w) X Y
+  unfolding Answers
+  answers_loaded v h X Y w f = go m h
     where
-      go : (m : Answer Refusal Module) → Answers m a P Q → Answers m a X Y
-      go (bad g) h = absurd (let e : a.number ≡ g.number = ap (λ (e : Fault). e.number) h.0 in let l = h.1 in omega arith)
-      go (ok M) h = (h.0, f M h.1)
+      go : (m : Answer Refusal Module) → Answers m (Ok v) P Q → Answers m (Ok w) X Y
+      go (bad g) h = absurd h
+      go (ok M) h = f M h
 
 -- ---- The module
 
@@ -74,12 +75,12 @@ no_first ms e = go (first_row (differs ms) 1 ms) refl e
     go none q e = refl
     go (some k) q e = absurd (let l = (first_least (differs ms) 1 ms k q).0 in omega arith)
 
-abbrev pub counts_of : Progress → Counts
-counts_of g = record { classes = g.classes; fields = g.fields; statics = g.statics; methods = g.methods; entry = g.entry }
+abbrev pub module_of : Counts → Arrays → Loaded
+module_of n A = record { counts = n; parents = A.parents; initialisers = A.initialisers; fields = A.fields; methods = A.methods; parts = A.parts }
 
 -- what stands at the end is what a loaded module holds
 holds : (code : List ℕ) (L : Loading) (A : Arrays) (g : Progress) → g ≡ progress_of L → Stands code L A
-    → Holds (record { parents = L.parents; fields = L.fields; methods = L.methods; entry = L.entry }) code (module_of (counts_of g) A.parents A.initialisers A.fields A.methods A.parts)
+    → Holds (record { parents = L.parents; fields = L.fields; methods = L.methods; entry = L.entry }) code (module_of (counts_of g) A)
 unfolding progress_of parent_of field_at field_column method_cell method_column root_at part_cell pick
 holds code L A g e S = record {
   class_count = ap (λ (h : Progress). h.classes) e;
@@ -133,13 +134,13 @@ module _ (tables code : List ℕ) where
       agreed L (first_row (differs L.methods) 1 L.methods) >>= λ _.
       ok (record { parents = L.parents; fields = L.fields; methods = L.methods; entry = L.entry })
 
-  refuses : (m : Answer Refusal Module) (p n : ℕ) → m ≡ bad (refused_at p n) → 1 ≤ n → (r : Loads) → r ≡ refused_of n p → (loaded : Module → Type 0) → Answers m r.fault (r.counts ≡ no_counts) loaded
-  unfolding Answers refused_of
-  refuses m p n e h r er loaded =
-      subst (λ (x : Answer Refusal Module). Answers x r.fault (r.counts ≡ no_counts) loaded) (sym e) (ap (λ (x : Loads). x.fault) er, h, ap (λ (x : Loads). x.counts) er)
+  refuses : (m : Answer Refusal Module) (p n : ℕ) → m ≡ bad (refused_at p n) → 1 ≤ n → (a : Fault) → a ≡ fault_of (refused_at p n)
+      → {V : Type 0} (loaded : V → Module → Type 0) → Answers m (Err a) ⊤ loaded
+  unfolding Answers
+  refuses m p n e h a ea loaded = subst (λ (x : Answer Refusal Module). Answers x (Err a) ⊤ loaded) (sym e) (ea, h, tt)
 
   -- 1: too long
-  pub ends_long : leb (length tables) 8192 && leb (length code) 32768 ≡ false → (r : Loads) → r ≡ refused_of 1 0 → (loaded : Module → Type 0) → Answers (load tables code) r.fault (r.counts ≡ no_counts) loaded
+  pub ends_long : leb (length tables) 8192 && leb (length code) 32768 ≡ false → (a : Fault) → a ≡ fault_of (refused_at 0 1) → {V : Type 0} (loaded : V → Module → Type 0) → Answers (load tables code) (Err a) ⊤ loaded
   unfolding load guard ◌>>=◌ after refusal
   ends_long e = refuses (load tables code) 0 1 (ap (λ (b : Bool). guard b (refused_at 0 1) >>= λ _. records (length tables) tables code 0 nothing >>= after) e) (omega arith)
 
@@ -149,14 +150,14 @@ module _ (tables code : List ℕ) where
     opened = ap (λ (b : Bool). guard b (refused_at 0 1) >>= λ _. records (length tables) tables code 0 nothing >>= after) (ap (λ (b : Bool). b && leb (length code) 32768) (le-leb (length tables) 8192 short) ∙ le-leb (length code) 32768 brief)
 
     -- 2 to 6: at the record
-    pub ends_record : (s.number ≡ 0 → ⊥) → (r : Loads) → r ≡ refused_of s.number s.place → (loaded : Module → Type 0) → Answers (load tables code) r.fault (r.counts ≡ no_counts) loaded
+    pub ends_record : (s.number ≡ 0 → ⊥) → (a : Fault) → a ≡ fault_of (refused_at s.place s.number) → {V : Type 0} (loaded : V → Module → Type 0) → Answers (load tables code) (Err a) ⊤ loaded
     unfolding ◌>>=◌ Reads
     ends_record n = go (records (length tables) tables code 0 nothing) refl R
       where
         same : (f : Refusal) → s.number ≡ f.number → s.place ≡ f.place → ◌≡◌ {A = Answer Refusal Module} (bad f) (bad (refused_at s.place s.number))
         same f p q = λ i. bad (record { number = sym p i; place = sym q i })
 
-        go : (m : Answer Refusal Loading) → records (length tables) tables code 0 nothing ≡ m → Reads code m s A → (r : Loads) → r ≡ refused_of s.number s.place → (loaded : Module → Type 0) → Answers (load tables code) r.fault (r.counts ≡ no_counts) loaded
+        go : (m : Answer Refusal Loading) → records (length tables) tables code 0 nothing ≡ m → Reads code m s A → (a : Fault) → a ≡ fault_of (refused_at s.place s.number) → {V : Type 0} (loaded : V → Module → Type 0) → Answers (load tables code) (Err a) ⊤ loaded
         go (bad f) e h =
             refuses (load tables code) s.place s.number (opened ∙ ap (λ (x : Answer Refusal Loading). x >>= after) e ∙ same f h.0 h.1) (subst (λ (i : ℕ). 1 ≤ i) (sym h.0) h.2)
         go (ok L) e h = absurd (n h.0)
@@ -178,7 +179,7 @@ module _ (tables code : List ℕ) where
       low_methods = let w = taken z in low_overrides w.3.methods.sound w.3.methods.few w.3.methods.cell
 
       -- 3: no entry
-      pub ends_open : (s.progress.last ≡ 6 → ⊥) → (r : Loads) → r ≡ refused_of 3 (length tables) → (loaded : Module → Type 0) → Answers (load tables code) r.fault (r.counts ≡ no_counts) loaded
+      pub ends_open : (s.progress.last ≡ 6 → ⊥) → (a : Fault) → a ≡ fault_of (refused_at (length tables) 3) → {V : Type 0} (loaded : V → Module → Type 0) → Answers (load tables code) (Err a) ⊤ loaded
       unfolding ◌>>=◌ after guard progress_of
       ends_open n =
           let w = taken z in
@@ -206,18 +207,17 @@ module _ (tables code : List ℕ) where
             ∙ ap (λ (o : Option ℕ). agreed w.0 o >>= λ _. ok (record { parents = w.0.parents; fields = w.0.fields; methods = w.0.methods; entry = w.0.entry })) f
 
         -- 7: at the lowest method that differs from what it overrides
-        pub ends_differing : (k ≡ 0 → ⊥) → (p : ℕ) → p ≡ get_or A.places k 0 → (r : Loads) → r ≡ refused_of 7 p → (loaded : Module → Type 0) → Answers (load tables code) r.fault (r.counts ≡ no_counts) loaded
+        pub ends_differing : (k ≡ 0 → ⊥) → (p : ℕ) → p ≡ get_or A.places k 0 → (a : Fault) → a ≡ fault_of (refused_at p 7) → {V : Type 0} (loaded : V → Module → Type 0) → Answers (load tables code) (Err a) ⊤ loaded
         unfolding ◌>>=◌ agreed refusal
         ends_differing nz p ep =
             let w = taken z in
             refuses (load tables code) p 7 (closed (some k) (sized k _ found nz) ∙ ap (λ (i : ℕ). bad (refused_at i 7)) (sym (ep ∙ w.3.place.each k ∙ place_at w.0.places k (omega arith)))) (omega arith)
 
         -- loaded
-        pub ends_loaded : k ≡ 0 → (r : Loads) → r ≡ taken_of s.progress
-            → Answers (load tables code) r.fault (r.counts ≡ no_counts) (λ M. Holds M code (module_of r.counts A.parents A.initialisers A.fields A.methods A.parts))
-        unfolding ◌>>=◌ agreed Answers taken_of
-        ends_loaded e r c =
+        pub ends_loaded : k ≡ 0 → {V : Type 0} (v : V) (n : Counts) → n ≡ counts_of s.progress
+            → Answers (load tables code) (Ok v) ⊤ (λ u M. Holds M code (module_of n A))
+        unfolding ◌>>=◌ agreed Answers
+        ends_loaded e v n en =
             let w = taken z in
-            subst (λ (x : Answer Refusal Module). Answers x r.fault (r.counts ≡ no_counts) (λ M. Holds M code (module_of r.counts A.parents A.initialisers A.fields A.methods A.parts)))
-            (sym (closed none (no_first _ (sym e ∙ found))))
-            (ap (λ (x : Loads). x.fault) c, subst (λ (n : Counts). Holds (record { parents = w.0.parents; fields = w.0.fields; methods = w.0.methods; entry = w.0.entry }) code (module_of n A.parents A.initialisers A.fields A.methods A.parts)) (sym (ap (λ (x : Loads). x.counts) c)) (holds code w.0 A s.progress w.2 w.3))
+            subst (λ (x : Answer Refusal Module). Answers x (Ok v) ⊤ (λ u M. Holds M code (module_of n A))) (sym (closed none (no_first _ (sym e ∙ found))))
+            (subst (λ (n : Counts). Holds (record { parents = w.0.parents; fields = w.0.fields; methods = w.0.methods; entry = w.0.entry }) code (module_of n A)) (sym en) (holds code w.0 A s.progress w.2 w.3))

@@ -12,10 +12,10 @@ use borrow.Author.Tests.{le-leb, lt-leb, lt-ltb, le-ltb, ltb-true, ltb-false, eq
 use Rattle.model.specs.Answer.{Answer, bad, ok, ◌>>=◌, guard, need, blame, pick, or_else, only_if, is_none, at, row, those, first_row}
 use Rattle.model.specs.Tables.{Method, part_of, no_method, method_at, arguments, this_of, parent_of, root, initialiser_of}
 use Rattle.model.specs.Loading.{Loading, Refusal, refusal, nothing, body_bytes, Read, one_record, read_record, records}
-use Rattle.loaded.specs.Holds.{byte_at, from_row}
+use Rattle.loaded.specs.Holds.{byte_at, from_row, zeros}
 use Rattle.loader.specs.declared.order.Progress.{Progress}
 use Rattle.loader.specs.declared.records.Reading.{Reading}
-use Rattle.loader.specs.Answers.{zeros, blank, Reads}
+use Rattle.loader.specs.Answers.{blank, Reads}
 use Rattle.loader.specs.Body.{bytes_at}
 use Rattle.loader.specs.Goes.{Goes}
 use Rattle.loader.specs.Stands.{Column, Grid, field_at, method_column, root_at, method_cell, part_cell, Sound, Arrays, Stands, progress_of}
