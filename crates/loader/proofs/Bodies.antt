@@ -14,10 +14,12 @@ use Rattle.model.specs.Operators.{flag as bit}
 use Rattle.model.specs.Loading.{Loading, little, body_bytes, class_record, field_record, method_record, param_record, local_record, entry_record, one_record}
 use Rattle.loader.specs.declared.method.Body.{Body}
 use Rattle.loader.specs.Body.{body_of}
+use Rattle.std.specs.Prelude.{Result, ⊤}
+use Rattle.loader.specs.declared.refusal.Refusal.{Refusal}
 use Rattle.loader.specs.Goes.{Goes}
 
-pub same_record : {A : Type 0} (m k : Answer ℕ A) → m ≡ k → (n : ℕ) (P : A → Type 0) → Goes k n P → Goes m n P
-same_record m k e n P h = subst (λ (x : Answer ℕ _). Goes x n P) (sym e) h
+pub same_record : {A : Type 0} (m k : Answer ℕ A) → m ≡ k → (r : Result ⊤ Refusal) (P : A → Type 0) → Goes k r P → Goes m r P
+same_record m k e r P h = subst (λ (x : Answer ℕ _). Goes x r P) (sym e) h
 
 -- ---- Sizes
 

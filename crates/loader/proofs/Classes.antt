@@ -12,11 +12,13 @@ use borrow.Author.Tests.{leb-true, ltb-true, eq-eqb, ne_eqb}
 use Rattle.model.specs.Answer.{pick, or_else, at, row, those}
 use Rattle.model.specs.Tables.{parent_of, climbs, descends, Field, is_static_field}
 use Rattle.model.specs.Loading.{Loading, follows, parent_fits, class_record}
-use Rattle.loader.specs.declared.order.Progress.{Progress}
+use Rattle.loaded.specs.declared.Counts.{Counts}
+use Rattle.loaded.specs.declared.Loaded.{Loaded}
+use Rattle.loader.specs.declared.order.Notes.{Notes}
 use Rattle.loader.specs.Goes.{Goes}
-use Rattle.loader.specs.Numbers.{class_number}
+use Rattle.loader.specs.Allowed.{class_allowed}
 use Rattle.loaded.specs.Holds.{from_row}
-use Rattle.loader.specs.Stands.{Column, field_at, FieldRows, Arrays, with_parents, Stands, progress_of}
+use Rattle.loader.specs.Stands.{Column, field_at, FieldRows, Stands, counts_of}
 use Rattle.ancestor.specs.Parents.{Falls}
 use Rattle.loader.proofs.Rows.{row_here, row_there, column_snoc, grown}
 use Rattle.loader.proofs.Grid.{grid_as}
@@ -90,31 +92,41 @@ no_fields {ps} qs {fs} e R = record {
     none_there : (r k : ℕ) → field_at ps [] r k ≡ field_at qs [] r k
     none_there r k = no_field ps r k ∙ sym (no_field qs r k)
 
-abbrev pub ClassTo : List ℕ → Loading → Arrays → List ℕ → ℕ → Progress → Type 0
-ClassTo code L A parents p g =
-    Goes (class_record L p) (class_number g.last g.classes p) (λ K.
-    (◌≡◌ {A = Progress} (record { last = 1; classes = g.classes + 1; fields = g.fields; statics = g.statics; methods = g.methods; entry = g.entry }) (progress_of K))
-    × Stands code K (with_parents A (set parents (g.classes + 1) p)))
+-- the module after a class
+abbrev pub class_in : Loaded → Counts → ℕ → Loaded
+class_in N n p = record {
+  counts = record { classes = n.classes + 1; fields = n.fields; statics = n.statics; methods = n.methods; entry = n.entry };
+  parents = set N.parents (n.classes + 1) p;
+  initialisers = N.initialisers;
+  fields = N.fields;
+  methods = N.methods;
+  parts = N.parts;
+}
 
-pub class_goes : (code : List ℕ) (L : Loading) (A : Arrays) (parents : List ℕ) (p : ℕ) (g : Progress) → g ≡ progress_of L → Stands code L (with_parents A parents) → ClassTo code L A parents p g
-unfolding class_record class_number progress_of follows pick
-class_goes code L A parents p g e S = subst (λ (h : Progress). ClassTo code L A parents p h) (sym e)
-    (goes_guard (leb L.last 1) 3 _ _ _ (omega arith) (omega arith) λ a.
-    goes_guard (parent_fits (length L.parents) p) 4 _ _ _ (omega arith) (omega arith) λ b.
-    goes_guard (ltb (length L.parents) 32) 5 _ _ _ (omega arith) (omega arith) λ c.
-    goes_ok _ _ (
-      ap (λ (n : ℕ). record { last = 1; classes = n; fields = length L.fields; statics = length (those is_static_field L.fields); methods = length L.methods; entry = L.entry }) (sym (grown L.parents p)),
-      record {
-        classes = record {
-          parent = column_snoc S.classes.parent (let h : length L.parents < 32 = ltb-true _ _ c in omega arith) p;
-          falls = falls_snoc L.parents p S.classes.falls (parent_less _ p b);
-          few = let h : length L.parents < 32 = ltb-true _ _ c in let q = grown L.parents p in omega arith;
-        };
-        fields = no_fields _ (S.fieldless (leb-true _ _ a)) S.fields;
-        methods = S.methods;
-        place = S.place;
-        placed = S.placed;
-        fieldless = λ h. S.fieldless (leb-true _ _ a);
-        begun = λ h k. absurd (omega arith);
-      },
-    ))
+abbrev pub ClassTo : List ℕ → Loading → Loaded → Notes → ℕ → Counts → ℕ → Type 0
+ClassTo code L N S p n last =
+    Goes (class_record L p) (class_allowed last n.classes p) (λ K. Stands code K (class_in N n p) (record { last = 1; own = S.own; places = S.places }))
+
+pub class_goes : (code : List ℕ) (L : Loading) (N : Loaded) (S : Notes) (p : ℕ) → Stands code L N S → ClassTo code L N S p N.counts S.last
+unfolding class_record class_allowed counts_of follows pick
+class_goes code L N S p Z =
+    subst (λ (n : Counts). ClassTo code L N S p n S.last) (sym Z.counted)
+    (subst (ClassTo code L N S p (counts_of L)) (sym Z.last)
+    (goes_guard (leb L.last 1) 3 _ _ _ _ refl (omega arith) (omega arith) λ a.
+    goes_guard (parent_fits (length L.parents) p) 4 _ _ _ _ refl (omega arith) (omega arith) λ b.
+    goes_guard (ltb (length L.parents) 32) 5 _ _ _ _ refl (omega arith) (omega arith) λ c.
+    goes_ok _ _ (record {
+      counted = ap (λ (n : ℕ). record { classes = n; fields = length L.fields; statics = length (those is_static_field L.fields); methods = length L.methods; entry = L.entry }) (sym (grown L.parents p));
+      last = refl;
+      classes = record {
+        parent = column_snoc Z.classes.parent (let h : length L.parents < 32 = ltb-true _ _ c in omega arith) p;
+        falls = falls_snoc L.parents p Z.classes.falls (parent_less _ p b);
+        few = let h : length L.parents < 32 = ltb-true _ _ c in let q = grown L.parents p in omega arith;
+      };
+      fields = no_fields _ (Z.fieldless (leb-true _ _ a)) Z.fields;
+      methods = Z.methods;
+      place = Z.place;
+      placed = Z.placed;
+      fieldless = λ h. Z.fieldless (leb-true _ _ a);
+      begun = λ h k. absurd (omega arith);
+    })))

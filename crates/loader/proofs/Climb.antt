@@ -10,11 +10,11 @@ use lib.Seq.{get_or-drop, drop-drop}
 use Rattle.model.specs.Answer.{or_else, those, keep_if}
 use Rattle.model.specs.Tables.{parent_of, descends, Field, Method, is_own, layout_up, layout, is_static_field}
 use Rattle.model.specs.Loading.{Loading, little}
-use Rattle.loader.specs.declared.order.Progress.{Progress}
+use Rattle.loaded.specs.declared.Loaded.{Loaded}
+use Rattle.loader.specs.declared.order.Notes.{Notes}
 use Rattle.loader.specs.declared.method.Body.{Body}
 use Rattle.loader.specs.Body.{body_of}
-use Rattle.loader.specs.Numbers.{code_in, method_number}
-use Rattle.loader.specs.Stands.{ClassRows, FieldRows, Sound, MethodCells, Arrays, Stands, progress_of, Fine, Small, Earlier}
+use Rattle.loader.specs.Stands.{ClassRows, FieldRows, Sound, MethodCells, Stands, counts_of, Fine, Small, Earlier}
 use Rattle.ancestor.specs.Parents.{Falls, Parents}
 use Rattle.loader.proofs.Rows.{row_past}
 use Rattle.loader.proofs.Classes.{parent_at, up, top}
@@ -92,14 +92,14 @@ pub low_overrides : {code : List ℕ} {ms : List Method} {a : List ℕ} → Soun
 unfolding Earlier
 low_overrides {ms = ms} sound few G r = let x = override_at ms G r in let y = overrides_below ms sound.earlier r in omega arith
 
-pub fine : {code : List ℕ} {L : Loading} {A : Arrays} (g : Progress) → g ≡ progress_of L → Stands code L A → Fine g
-unfolding progress_of
-fine {L = L} g e S =
-    subst Fine (sym e) (record {
-      classes = S.classes.few;
-      fields = S.fields.few;
-      statics = let a = those_few is_static_field L.fields in let b = S.fields.few in omega arith;
-      methods = S.methods.few;
+pub fine : {code : List ℕ} {L : Loading} {N : Loaded} {S : Notes} → Stands code L N S → Fine N.counts
+unfolding counts_of
+fine {L = L} Z =
+    subst Fine (sym Z.counted) (record {
+      classes = Z.classes.few;
+      fields = Z.fields.few;
+      statics = let a = those_few is_static_field L.fields in let b = Z.fields.few in omega arith;
+      methods = Z.methods.few;
     })
 
 -- ---- Little-endian numbers
@@ -151,10 +151,3 @@ body t at a b c d e f ea eb ec ed ee ef =
     let offset = little_four t (at + 6) a b c d ea (eb ∙ ap (λ (x : ℕ). get_or t x 0) i) (ec ∙ ap (λ (x : ℕ). get_or t x 0) j) (ed ∙ ap (λ (x : ℕ). get_or t x 0) k) in
     let size = little_two t (at + 10) e f ee (ef ∙ ap (λ (x : ℕ). get_or t x 0) l) in
     λ x. record { owner = get_or t (at + 1) 0; sort = get_or t (at + 2) 0; returns = get_or t (at + 3) 0; stack = get_or t (at + 4) 0; overridden = get_or t (at + 5) 0; offset = offset x; size = size x }
-
--- ---- A parameter's and a local's record, with the arrays as the code has them
-
--- the number of a method's record by how long the code is
-pub method_in : (last classes methods o s r most offset size n : ℕ) (over fits : Bool) {m : ℕ} → n ≡ m
-    → method_number last classes methods o s r most (code_in n offset size) over fits ≡ method_number last classes methods o s r most (code_in m offset size) over fits
-method_in last classes methods o s r most offset size n over fits e = ap (λ (k : ℕ). method_number last classes methods o s r most (code_in k offset size) over fits) e

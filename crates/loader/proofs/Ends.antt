@@ -2,13 +2,13 @@
 use mathlib.Core.Path.{◌≡◌, refl, sym, ap, ◌∙◌, subst}
 use Rattle.std.specs.Prelude.{Ok, Err, ⊤}
 use Prim.Native.Nat.{ℕ, zero, suc, ◌+◌, ◌-◌, ◌*◌, ◌≤◌, ◌<◌}
-use mathlib.Core.Bool.{Bool, false, ◌&&◌}
+use mathlib.Core.Bool.{Bool, true, false, not, ◌&&◌}
 use mathlib.Core.Option.{Option, none, some}
 use mathlib.Core.List.{List, [], ◌∷◌}
 use native.Mathlib.Omega.{arith}
 use lib.ListN.{length, get_or}
 use lib.Dec.{leb, eqb}
-use borrow.Author.Tests.{le-leb, eq-eqb, ne_eqb}
+use borrow.Author.Tests.{eq-eqb, ne_eqb}
 use Rattle.model.specs.Answer.{Answer, bad, ok, ◌>>=◌, guard, pick, or_else, at, row, first_row}
 use Rattle.model.specs.Tables.{Method, Module, part_of, method_at, parent_of}
 use Rattle.model.specs.Loading.{Loading, Refusal, refusal, nothing, records, differs, agreed, load}
@@ -16,14 +16,14 @@ use Rattle.loaded.specs.declared.Fault.{Fault}
 use Rattle.loaded.specs.declared.Counts.{Counts}
 use Rattle.loaded.specs.declared.Loaded.{Loaded}
 use Rattle.loaded.specs.Holds.{Holds}
-use Rattle.loader.specs.declared.order.Progress.{Progress}
-use Rattle.loader.specs.declared.records.Reading.{Reading}
-use Rattle.loader.specs.Answers.{fault_of, counts_of, Answers, Reads}
-use Rattle.loader.specs.Stands.{field_column, field_at, method_column, root_at, method_cell, part_cell, MethodCells, Sound, Arrays, Stands, progress_of, Earlier}
+use Rattle.loader.specs.declared.order.Notes.{Notes}
+use Rattle.loader.specs.Refusals.{fault_of}
+use Rattle.loader.specs.Answers.{Answers}
+use Rattle.loader.specs.Stands.{field_column, field_at, method_column, root_at, method_cell, part_cell, MethodCells, Sound, Stands, counts_of, Earlier}
 use Rattle.loader.proofs.Rows.{first_least}
 use Rattle.loader.proofs.Methods.{argument_column, local_column}
 use Rattle.loader.proofs.Climb.{fine, low_overrides}
-use Rattle.loader.proofs.Reading.{refused_at}
+use Rattle.loader.proofs.Reading.{refused_at, refuses}
 
 -- ---- An answer
 
@@ -75,57 +75,61 @@ no_first ms e = go (first_row (differs ms) 1 ms) refl e
     go none q e = refl
     go (some k) q e = absurd (let l = (first_least (differs ms) 1 ms k q).0 in omega arith)
 
-abbrev pub module_of : Counts → Arrays → Loaded
-module_of n A = record { counts = n; parents = A.parents; initialisers = A.initialisers; fields = A.fields; methods = A.methods; parts = A.parts }
-
 -- what stands at the end is what a loaded module holds
-holds : (code : List ℕ) (L : Loading) (A : Arrays) (g : Progress) → g ≡ progress_of L → Stands code L A
-    → Holds (record { parents = L.parents; fields = L.fields; methods = L.methods; entry = L.entry }) code (module_of (counts_of g) A)
-unfolding progress_of parent_of field_at field_column method_cell method_column root_at part_cell pick
-holds code L A g e S = record {
-  class_count = ap (λ (h : Progress). h.classes) e;
-  field_count = ap (λ (h : Progress). h.fields) e;
-  static_count = ap (λ (h : Progress). h.statics) e;
-  method_count = ap (λ (h : Progress). h.methods) e;
-  entry_row = ap (λ (h : Progress). h.entry) e;
+holds : (code : List ℕ) (L : Loading) (N : Loaded) (S : Notes) → Stands code L N S → Holds (record { parents = L.parents; fields = L.fields; methods = L.methods; entry = L.entry }) code N
+unfolding counts_of parent_of field_at field_column method_cell method_column root_at part_cell pick
+holds code L N S Z = record {
+  class_count = ap (λ (n : Counts). n.classes) Z.counted;
+  field_count = ap (λ (n : Counts). n.fields) Z.counted;
+  static_count = ap (λ (n : Counts). n.statics) Z.counted;
+  method_count = ap (λ (n : Counts). n.methods) Z.counted;
+  entry_row = ap (λ (n : Counts). n.entry) Z.counted;
   lengths = record {
-    parents = S.classes.parent.long;
-    initialisers = S.methods.initialiser.long;
-    fields = S.fields.cell.long;
-    methods = S.methods.cell.long;
-    parts = S.methods.part.long;
+    parents = Z.classes.parent.long;
+    initialisers = Z.methods.initialiser.long;
+    fields = Z.fields.cell.long;
+    methods = Z.methods.cell.long;
+    parts = Z.methods.part.long;
   };
-  by_class = record { parent = S.classes.parent.each; initialiser = S.methods.initialiser.each };
+  by_class = record { parent = Z.classes.parent.each; initialiser = Z.methods.initialiser.each };
   by_field = record {
-    owner = λ r. S.fields.cell.each r 0 (omega arith);
-    static = λ r. S.fields.cell.each r 1 (omega arith);
-    type = λ r. S.fields.cell.each r 2 (omega arith);
-    slot_at = λ r. S.fields.cell.each r 3 (omega arith);
+    owner = λ r. Z.fields.cell.each r 0 (omega arith);
+    static = λ r. Z.fields.cell.each r 1 (omega arith);
+    type = λ r. Z.fields.cell.each r 2 (omega arith);
+    slot_at = λ r. Z.fields.cell.each r 3 (omega arith);
   };
   by_method = record {
-    argument_type = λ r i h. S.methods.cell.each r i (omega arith) ∙ argument_column (root_at L.methods r) (method_at L.methods r) i h;
-    local_type_lem = λ r i h. S.methods.cell.each r (8 + i) (omega arith) ∙ local_column (root_at L.methods r) (method_at L.methods r) i h;
-    sort = λ r. S.methods.cell.each r 24 (omega arith);
-    owner = λ r. S.methods.cell.each r 25 (omega arith);
-    returns = λ r. S.methods.cell.each r 26 (omega arith);
-    stack = λ r. S.methods.cell.each r 27 (omega arith);
-    argument_count = λ r. S.methods.cell.each r 28 (omega arith);
-    local_count_lem = λ r. S.methods.cell.each r 29 (omega arith);
-    root_at_lem = λ r. S.methods.cell.each r 30 (omega arith);
-    overridden = λ r. S.methods.cell.each r 31 (omega arith);
+    argument_type = λ r i h. Z.methods.cell.each r i (omega arith) ∙ argument_column (root_at L.methods r) (method_at L.methods r) i h;
+    local_type_lem = λ r i h. Z.methods.cell.each r (8 + i) (omega arith) ∙ local_column (root_at L.methods r) (method_at L.methods r) i h;
+    sort = λ r. Z.methods.cell.each r 24 (omega arith);
+    owner = λ r. Z.methods.cell.each r 25 (omega arith);
+    returns = λ r. Z.methods.cell.each r 26 (omega arith);
+    stack = λ r. Z.methods.cell.each r 27 (omega arith);
+    argument_count = λ r. Z.methods.cell.each r 28 (omega arith);
+    local_count_lem = λ r. Z.methods.cell.each r 29 (omega arith);
+    root_at_lem = λ r. Z.methods.cell.each r 30 (omega arith);
+    overridden = λ r. Z.methods.cell.each r 31 (omega arith);
     offset = offset;
     size = size;
-    part = λ r. S.methods.sound.part r ∙ sym (ap (λ (i : ℕ). part_of code i (get_or A.parts (r * 2 + 1) 0)) (offset r) ∙ ap (part_of code (method_at L.methods r).offset) (size r));
+    part = λ r. Z.methods.sound.part r ∙ sym (ap (λ (i : ℕ). part_of code i (get_or N.parts (r * 2 + 1) 0)) (offset r) ∙ ap (part_of code (method_at L.methods r).offset) (size r));
   };
 }
   where
-    offset : (r : ℕ) → get_or A.parts (r * 2) 0 ≡ (method_at L.methods r).offset
-    offset r = let q : r * 2 ≡ r * 2 + 0 = omega arith in ap (λ (i : ℕ). get_or A.parts i 0) q ∙ S.methods.part.each r 0 (omega arith)
+    offset : (r : ℕ) → get_or N.parts (r * 2) 0 ≡ (method_at L.methods r).offset
+    offset r = let q : r * 2 ≡ r * 2 + 0 = omega arith in ap (λ (i : ℕ). get_or N.parts i 0) q ∙ Z.methods.part.each r 0 (omega arith)
 
-    size : (r : ℕ) → get_or A.parts (r * 2 + 1) 0 ≡ length (method_at L.methods r).code
-    size r = S.methods.part.each r 1 (omega arith)
+    size : (r : ℕ) → get_or N.parts (r * 2 + 1) 0 ≡ length (method_at L.methods r).code
+    size r = Z.methods.part.each r 1 (omega arith)
 
 -- ---- After the records
+
+closed_by : (b : Bool) → true ≡ not b → b ≡ false
+closed_by true e = e
+closed_by false e = refl
+
+open_by : (b : Bool) → false ≡ not b → b ≡ true
+open_by true e = refl
+open_by false e = e
 
 module _ (tables code : List ℕ) where
   after : Loading → Answer Refusal Module
@@ -134,90 +138,81 @@ module _ (tables code : List ℕ) where
       agreed L (first_row (differs L.methods) 1 L.methods) >>= λ _.
       ok (record { parents = L.parents; fields = L.fields; methods = L.methods; entry = L.entry })
 
-  refuses : (m : Answer Refusal Module) (p n : ℕ) → m ≡ bad (refused_at p n) → 1 ≤ n → (a : Fault) → a ≡ fault_of (refused_at p n)
-      → {V : Type 0} (loaded : V → Module → Type 0) → Answers m (Err a) ⊤ loaded
-  unfolding Answers
-  refuses m p n e h a ea loaded = subst (λ (x : Answer Refusal Module). Answers x (Err a) ⊤ loaded) (sym e) (ea, h, tt)
-
   -- 1: too long
-  pub ends_long : leb (length tables) 8192 && leb (length code) 32768 ≡ false → (a : Fault) → a ≡ fault_of (refused_at 0 1) → {V : Type 0} (loaded : V → Module → Type 0) → Answers (load tables code) (Err a) ⊤ loaded
+  pub ends_long : true ≡ not (leb (length tables) 8192 && leb (length code) 32768) → (a : Fault) → a ≡ fault_of (refused_at 0 1) → {V : Type 0} (loaded : V → Module → Type 0) → Answers (load tables code) (Err a) ⊤ loaded
   unfolding load guard ◌>>=◌ after refusal
-  ends_long e = refuses (load tables code) 0 1 (ap (λ (b : Bool). guard b (refused_at 0 1) >>= λ _. records (length tables) tables code 0 nothing >>= after) e) (omega arith)
+  ends_long e a ea loaded = refuses (load tables code) 0 1 (ap (λ (b : Bool). guard b (refused_at 0 1) >>= λ _. records (length tables) tables code 0 nothing >>= after) (closed_by _ e)) (omega arith) a ea loaded
 
-  module _ (short : length tables ≤ 8192) (brief : length code ≤ 32768) (s : Reading) (A : Arrays) (R : Reads code (records (length tables) tables code 0 nothing) s A) where
+  module _ (short : false ≡ not (leb (length tables) 8192 && leb (length code) 32768)) where
     opened : load tables code ≡ (records (length tables) tables code 0 nothing >>= after)
     unfolding load guard ◌>>=◌ after refusal
-    opened = ap (λ (b : Bool). guard b (refused_at 0 1) >>= λ _. records (length tables) tables code 0 nothing >>= after) (ap (λ (b : Bool). b && leb (length code) 32768) (le-leb (length tables) 8192 short) ∙ le-leb (length code) 32768 brief)
+    opened = ap (λ (b : Bool). guard b (refused_at 0 1) >>= λ _. records (length tables) tables code 0 nothing >>= after) (open_by _ short)
 
     -- 2 to 6: at the record
-    pub ends_record : (s.number ≡ 0 → ⊥) → (a : Fault) → a ≡ fault_of (refused_at s.place s.number) → {V : Type 0} (loaded : V → Module → Type 0) → Answers (load tables code) (Err a) ⊤ loaded
-    unfolding ◌>>=◌ Reads
-    ends_record n = go (records (length tables) tables code 0 nothing) refl R
+    pub ends_record : (a : Fault) (P : Loading → Type 0) → Answers {A = ⊤} (records (length tables) tables code 0 nothing) (Err a) ⊤ (λ u L. P L)
+        → {V : Type 0} (loaded : V → Module → Type 0) → Answers (load tables code) (Err a) ⊤ loaded
+    unfolding ◌>>=◌ Answers
+    ends_record a P R loaded = go (records (length tables) tables code 0 nothing) refl R
       where
-        same : (f : Refusal) → s.number ≡ f.number → s.place ≡ f.place → ◌≡◌ {A = Answer Refusal Module} (bad f) (bad (refused_at s.place s.number))
-        same f p q = λ i. bad (record { number = sym p i; place = sym q i })
-
-        go : (m : Answer Refusal Loading) → records (length tables) tables code 0 nothing ≡ m → Reads code m s A → (a : Fault) → a ≡ fault_of (refused_at s.place s.number) → {V : Type 0} (loaded : V → Module → Type 0) → Answers (load tables code) (Err a) ⊤ loaded
+        go : (m : Answer Refusal Loading) → records (length tables) tables code 0 nothing ≡ m → Answers {A = ⊤} m (Err a) ⊤ (λ u L. P L) → Answers (load tables code) (Err a) ⊤ loaded
         go (bad f) e h =
-            refuses (load tables code) s.place s.number (opened ∙ ap (λ (x : Answer Refusal Loading). x >>= after) e ∙ same f h.0 h.1) (subst (λ (i : ℕ). 1 ≤ i) (sym h.0) h.2)
-        go (ok L) e h = absurd (n h.0)
+            refuses (load tables code) f.place f.number (opened ∙ ap (λ (x : Answer Refusal Loading). x >>= after) e) h.1 a h.0 loaded
+        go (ok L) e h = absurd h
 
-    -- what is known where every record is taken
-    pub taken : s.number ≡ 0 → (L : Loading) × (records (length tables) tables code 0 nothing ≡ ok L) × (s.progress ≡ progress_of L) × Stands code L A
-    unfolding Reads
-    taken z = go (records (length tables) tables code 0 nothing) refl R
-      where
-        go : (m : Answer Refusal Loading) → records (length tables) tables code 0 nothing ≡ m → Reads code m s A → (L : Loading) × (records (length tables) tables code 0 nothing ≡ ok L) × (s.progress ≡ progress_of L) × Stands code L A
-        go (bad f) e h = absurd (let p = h.0 in let q = h.2 in omega arith)
-        go (ok L) e h = (L, e, h.1, h.2)
+    module _ (N : Loaded) (S : Notes) (v : ⊤) (R : Answers (records (length tables) tables code 0 nothing) (Ok v) ⊤ (λ u L. Stands code L N S)) where
+      -- what is known where every record is taken
+      pub taken : (L : Loading) × (records (length tables) tables code 0 nothing ≡ ok L) × Stands code L N S
+      unfolding Answers
+      taken = go (records (length tables) tables code 0 nothing) refl R
+        where
+          go : (m : Answer Refusal Loading) → records (length tables) tables code 0 nothing ≡ m → Answers m (Ok v) ⊤ (λ u L. Stands code L N S) → (L : Loading) × (records (length tables) tables code 0 nothing ≡ ok L) × Stands code L N S
+          go (bad f) e h = absurd h
+          go (ok L) e h = (L, e, h)
 
-    module _ (z : s.number ≡ 0) where
-      pub few_methods : s.progress.methods ≤ 128
-      few_methods = let w = taken z in (fine s.progress w.2 w.3).methods
+      pub few_methods : N.counts.methods ≤ 128
+      few_methods = (fine taken.2).methods
 
-      pub low_methods : Earlier A.methods
-      low_methods = let w = taken z in low_overrides w.3.methods.sound w.3.methods.few w.3.methods.cell
+      pub low_methods : Earlier N.methods
+      low_methods = let w = taken in low_overrides w.2.methods.sound w.2.methods.few w.2.methods.cell
 
       -- 3: no entry
-      pub ends_open : (s.progress.last ≡ 6 → ⊥) → (a : Fault) → a ≡ fault_of (refused_at (length tables) 3) → {V : Type 0} (loaded : V → Module → Type 0) → Answers (load tables code) (Err a) ⊤ loaded
-      unfolding ◌>>=◌ after guard progress_of
-      ends_open n =
-          let w = taken z in
+      pub ends_open : (S.last ≡ 6 → ⊥) → (a : Fault) → a ≡ fault_of (refused_at (length tables) 3) → {V : Type 0} (loaded : V → Module → Type 0) → Answers (load tables code) (Err a) ⊤ loaded
+      unfolding ◌>>=◌ after guard
+      ends_open n a ea loaded =
+          let w = taken in
           refuses (load tables code) (length tables) 3
           (opened
           ∙ ap (λ (x : Answer Refusal Loading). x >>= after) w.1
           ∙ ap (λ (b : Bool). guard b (refused_at (length tables) 3) >>= λ _. agreed w.0 (first_row (differs w.0.methods) 1 w.0.methods) >>= λ _. ok (record { parents = w.0.parents; fields = w.0.fields; methods = w.0.methods; entry = w.0.entry }))
-          (ne_eqb w.0.last 6 (λ e. n (ap (λ (g : Progress). g.last) w.2 ∙ e)))) (omega arith)
+          (ne_eqb w.0.last 6 (λ e. n (w.2.last ∙ e)))) (omega arith) a ea loaded
 
-      module _ (six : s.progress.last ≡ 6) (k : ℕ)
-          (first : (buffer : List ℕ) (ms : List Method) → s.progress.methods ≡ length ms → Sound buffer ms → MethodCells ms A.methods → k ≡ or_else (first_row (differs ms) 1 ms) 0) where
-        found : k ≡ or_else (first_row (differs (taken z).0.methods) 1 (taken z).0.methods) 0
-        unfolding progress_of
-        found = let w = taken z in first code w.0.methods (ap (λ (g : Progress). g.methods) w.2) w.3.methods.sound w.3.methods.cell
+      module _ (six : S.last ≡ 6) (k : ℕ)
+          (first : (buffer : List ℕ) (ms : List Method) → N.counts.methods ≡ length ms → Sound buffer ms → MethodCells ms N.methods → k ≡ or_else (first_row (differs ms) 1 ms) 0) where
+        found : k ≡ or_else (first_row (differs taken.0.methods) 1 taken.0.methods) 0
+        unfolding counts_of
+        found = let w = taken in first code w.0.methods (ap (λ (n : Counts). n.methods) w.2.counted) w.2.methods.sound w.2.methods.cell
 
-        closed : (o : Option ℕ) → first_row (differs (taken z).0.methods) 1 (taken z).0.methods ≡ o →
-            load tables code ≡ (agreed (taken z).0 o >>= λ _. ok (record { parents = (taken z).0.parents; fields = (taken z).0.fields; methods = (taken z).0.methods; entry = (taken z).0.entry }))
-        unfolding ◌>>=◌ after guard progress_of
+        closed : (o : Option ℕ) → first_row (differs taken.0.methods) 1 taken.0.methods ≡ o →
+            load tables code ≡ (agreed taken.0 o >>= λ _. ok (record { parents = taken.0.parents; fields = taken.0.fields; methods = taken.0.methods; entry = taken.0.entry }))
+        unfolding ◌>>=◌ after guard
         closed o f =
-            let w = taken z in
+            let w = taken in
             opened
             ∙ ap (λ (x : Answer Refusal Loading). x >>= after) w.1
             ∙ ap (λ (b : Bool). guard b (refused_at (length tables) 3) >>= λ _. agreed w.0 (first_row (differs w.0.methods) 1 w.0.methods) >>= λ _. ok (record { parents = w.0.parents; fields = w.0.fields; methods = w.0.methods; entry = w.0.entry }))
-            (eq-eqb w.0.last 6 (sym (ap (λ (g : Progress). g.last) w.2) ∙ six))
+            (eq-eqb w.0.last 6 (sym w.2.last ∙ six))
             ∙ ap (λ (o : Option ℕ). agreed w.0 o >>= λ _. ok (record { parents = w.0.parents; fields = w.0.fields; methods = w.0.methods; entry = w.0.entry })) f
 
         -- 7: at the lowest method that differs from what it overrides
-        pub ends_differing : (k ≡ 0 → ⊥) → (p : ℕ) → p ≡ get_or A.places k 0 → (a : Fault) → a ≡ fault_of (refused_at p 7) → {V : Type 0} (loaded : V → Module → Type 0) → Answers (load tables code) (Err a) ⊤ loaded
+        pub ends_differing : (k ≡ 0 → ⊥) → (a : Fault) → a ≡ fault_of (refused_at (get_or S.places k 0) 7) → {V : Type 0} (loaded : V → Module → Type 0) → Answers (load tables code) (Err a) ⊤ loaded
         unfolding ◌>>=◌ agreed refusal
-        ends_differing nz p ep =
-            let w = taken z in
-            refuses (load tables code) p 7 (closed (some k) (sized k _ found nz) ∙ ap (λ (i : ℕ). bad (refused_at i 7)) (sym (ep ∙ w.3.place.each k ∙ place_at w.0.places k (omega arith)))) (omega arith)
+        ends_differing nz a ea loaded =
+            let w = taken in
+            refuses (load tables code) (get_or S.places k 0) 7 (closed (some k) (sized k _ found nz) ∙ ap (λ (i : ℕ). bad (refused_at i 7)) (sym (w.2.place.each k ∙ place_at w.0.places k (omega arith)))) (omega arith) a ea loaded
 
         -- loaded
-        pub ends_loaded : k ≡ 0 → {V : Type 0} (v : V) (n : Counts) → n ≡ counts_of s.progress
-            → Answers (load tables code) (Ok v) ⊤ (λ u M. Holds M code (module_of n A))
+        pub ends_loaded : k ≡ 0 → {V : Type 0} (v : V) → Answers (load tables code) (Ok v) ⊤ (λ u M. Holds M code N)
         unfolding ◌>>=◌ agreed Answers
-        ends_loaded e v n en =
-            let w = taken z in
-            subst (λ (x : Answer Refusal Module). Answers x (Ok v) ⊤ (λ u M. Holds M code (module_of n A))) (sym (closed none (no_first _ (sym e ∙ found))))
-            (subst (λ (n : Counts). Holds (record { parents = w.0.parents; fields = w.0.fields; methods = w.0.methods; entry = w.0.entry }) code (module_of n A)) (sym en) (holds code w.0 A s.progress w.2 w.3))
+        ends_loaded e v =
+            let w = taken in
+            subst (λ (x : Answer Refusal Module). Answers x (Ok v) ⊤ (λ u M. Holds M code N)) (sym (closed none (no_first _ (sym e ∙ found)))) (holds code w.0 N S w.2)

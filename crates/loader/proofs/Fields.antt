@@ -16,10 +16,14 @@ use Rattle.model.specs.Tables.{Ty, byte_of, parent_of, Field, is_own, layout_up,
 use Rattle.model.specs.Loading.{Loading, follows, within, no_field, field_room, field_record}
 use Rattle.model.specs.Operators.{flag as bit}
 use Rattle.loaded.specs.Holds.{from_row}
-use Rattle.loader.specs.declared.order.Progress.{Progress}
+use Rattle.std.specs.Prelude.{Ok, Err}
+use Rattle.loaded.specs.declared.Counts.{Counts}
+use Rattle.loaded.specs.declared.Loaded.{Loaded}
+use Rattle.loader.specs.declared.order.Notes.{Notes}
+use Rattle.loader.specs.declared.refusal.Refusal.TheVariants.{Order, Range, TooMany}
 use Rattle.loader.specs.Goes.{Goes}
-use Rattle.loader.specs.Numbers.{is_type, slot_room, field_number}
-use Rattle.loader.specs.Stands.{Grid, stored, field_column, field_at, field_cells, FieldRows, Arrays, with_fields, Stands, progress_of}
+use Rattle.loader.specs.Allowed.{is_type, slot_room, field_allowed}
+use Rattle.loader.specs.Stands.{Grid, stored, field_column, field_at, field_cells, FieldRows, Stands, counts_of}
 use Rattle.ancestor.specs.Parents.{Falls}
 use Rattle.loader.proofs.Rows.{row_here, row_there, row_some, grown, those_snoc, last_row, last_snoc}
 use Rattle.loader.proofs.Grid.{after, Below, grid_row}
@@ -215,61 +219,68 @@ last_owner ps fs G = G.each (length fs) 0 (omega arith) ∙ go (row fs (length f
     go none = refl
     go (some d) = refl
 
-abbrev pub FieldTo : List ℕ → Loading → Arrays → List ℕ → List ℕ → ℕ → ℕ → ℕ → ℕ → Progress → Type 0
-FieldTo code L A own fields o flag t s g =
-    Goes (field_record L o flag t) (field_number g.last (get_or fields (g.fields * 4 + 0) 0) g.classes g.fields o flag t s) (λ K.
-    (◌≡◌ {A = Progress} (record { last = 2; classes = g.classes; fields = g.fields + 1; statics = g.statics + flag; methods = g.methods; entry = g.entry }) (progress_of K))
-    × Stands code K (with_fields A (set own o (get_or own o 0 + (1 - flag))) (stored 4 (g.fields + 1) fields (field_cells o flag t s))))
+-- the counts after a field
+abbrev pub counted_field : Counts → ℕ → Counts
+counted_field n flag = record { classes = n.classes; fields = n.fields + 1; statics = n.statics + flag; methods = n.methods; entry = n.entry }
 
-pub field_goes : (code : List ℕ) (L : Loading) (A : Arrays) (own fields : List ℕ) (o flag t s : ℕ) (g : Progress) → g ≡ progress_of L
-    → s ≡ pick (eqb flag 1) (length (those is_static_field L.fields)) (length (layout L.parents L.fields o)) → Stands code L (with_fields A own fields) → FieldTo code L A own fields o flag t s g
-unfolding field_record field_number progress_of is_type field_room
-field_goes code L A own fields o flag t s g e sl S =
-    subst (λ (h : Progress). FieldTo code L A own fields o flag t s h) (sym e)
-    (subst (λ (b : ℕ). Goes (field_record L o flag t) (field_number L.last b (length L.parents) (length L.fields) o flag t s) P) (sym (last_owner L.parents L.fields S.fields.cell))
-    (subst (λ (b : Bool). Goes (field_record L o flag t) (pick (follows L.last 2 && leb (last_of no_field L.fields).owner o) (pick (within 1 (length L.parents) o) (pick (leb flag 1) (pick (not (is_none (type_at (length L.parents) t))) (pick b 0 5) 4) 4) 4) 3) P)
+-- the module after a field, whose rows are then f, and the notes
+abbrev pub field_in : Loaded → Counts → List ℕ → ℕ → Loaded
+field_in N n f flag =
+    record { counts = counted_field n flag; parents = N.parents; initialisers = N.initialisers; fields = f; methods = N.methods; parts = N.parts }
+
+abbrev pub field_noted : Notes → ℕ → ℕ → Notes
+field_noted S o flag = record { last = 2; own = set S.own o (get_or S.own o 0 + (1 - flag)); places = S.places }
+
+abbrev pub FieldTo : List ℕ → Loading → Loaded → Notes → ℕ → ℕ → ℕ → ℕ → Counts → ℕ → Type 0
+FieldTo code L N S o flag t s n last =
+    Goes (field_record L o flag t) (field_allowed last (get_or N.fields (n.fields * 4 + 0) 0) n.classes n.fields o flag t s) (λ K.
+    Stands code K (field_in N n (stored 4 (n.fields + 1) N.fields (field_cells o flag t s)) flag) (field_noted S o flag))
+
+pub field_goes : (code : List ℕ) (L : Loading) (N : Loaded) (S : Notes) (o flag t s : ℕ) → Stands code L N S
+    → s ≡ pick (eqb flag 1) (length (those is_static_field L.fields)) (length (layout L.parents L.fields o)) → FieldTo code L N S o flag t s N.counts S.last
+unfolding field_record field_allowed counts_of is_type field_room
+field_goes code L N S o flag t s Z sl =
+    subst (λ (n : Counts). FieldTo code L N S o flag t s n S.last) (sym Z.counted)
+    (subst (FieldTo code L N S o flag t s (counts_of L)) (sym Z.last)
+    (subst (λ (b : ℕ). Goes (field_record L o flag t) (field_allowed L.last b (length L.parents) (length L.fields) o flag t s) P) (sym (last_owner L.parents L.fields Z.fields.cell))
+    (subst (λ (b : Bool). Goes (field_record L o flag t) (pick (follows L.last 2 && leb (last_of no_field L.fields).owner o) (pick (within 1 (length L.parents) o) (pick (leb flag 1) (pick (not (is_none (type_at (length L.parents) t))) (pick b (Ok tt) (Err TooMany)) (Err Range)) (Err Range)) (Err Range)) (Err Order)) P)
     (sym (slot_room_lem (length L.fields) flag _ _ s sl))
-    (goes_guard (follows L.last 2 && leb (last_of no_field L.fields).owner o) 3 _ _ P (omega arith) (omega arith) λ a.
-    goes_guard (within 1 (length L.parents) o) 4 _ _ P (omega arith) (omega arith) λ b.
-    goes_guard (leb flag 1) 4 _ _ P (omega arith) (omega arith) λ c.
-    goes_need (type_at (length L.parents) t) 4 _ _ P (omega arith) (omega arith) λ u d.
-    goes_guard _ 5 _ _ P (omega arith) (omega arith) λ r.
-    goes_ok _ P (taken u a b c d r))))
+    (goes_guard (follows L.last 2 && leb (last_of no_field L.fields).owner o) 3 _ _ P _ refl (omega arith) (omega arith) λ a.
+    goes_guard (within 1 (length L.parents) o) 4 _ _ P _ refl (omega arith) (omega arith) λ b.
+    goes_guard (leb flag 1) 4 _ _ P _ refl (omega arith) (omega arith) λ c.
+    goes_need (type_at (length L.parents) t) 4 _ _ P _ refl (omega arith) (omega arith) λ u d.
+    goes_guard _ 5 _ _ P _ refl (omega arith) (omega arith) λ r.
+    goes_ok _ P (taken u a b c d r)))))
   where
     P : Loading → Type 0
-    P K =
-        (◌≡◌ {A = Progress} (record { last = 2; classes = length L.parents; fields = length L.fields + 1; statics = length (those is_static_field L.fields) + flag; methods = length L.methods; entry = L.entry }) (progress_of K))
-        × Stands code K (with_fields A (set own o (get_or own o 0 + (1 - flag))) (stored 4 (length L.fields + 1) fields (field_cells o flag t s)))
+    P K = Stands code K (field_in N (counts_of L) (stored 4 (length L.fields + 1) N.fields (field_cells o flag t s)) flag) (field_noted S o flag)
 
     taken : (u : Ty) → follows L.last 2 && leb (last_of no_field L.fields).owner o ≡ true → within 1 (length L.parents) o ≡ true → leb flag 1 ≡ true → type_at (length L.parents) t ≡ some u → ltb (length L.fields) 128 && pick (eqb flag 1) (ltb (length (those is_static_field L.fields)) 64) (ltb (length (layout L.parents L.fields o)) 8) ≡ true →
         P (record { last = 2; parents = L.parents; methods = L.methods; places = L.places; entry = L.entry; fields = L.fields ++ (field_of o flag u ∷ []) })
     taken u a b c d r =
         let two : flag ≤ 1 = leb-true flag 1 c in
         let bound = within_true 1 (length L.parents) o b in
-        let many : length L.parents ≤ 32 = S.classes.few in (
-          cc (statics_new L.fields o flag u two, grown L.fields (field_of o flag u)),
-          record {
-            classes = S.classes;
-            fields = field_rows L.parents L.fields own fields S.classes.falls S.fields o flag u t s bound.0 (omega (arith, bound.1)) two
-                (leb-true (last_of no_field L.fields).owner o (both_true (follows L.last 2) (leb (last_of no_field L.fields).owner o) a).1) (type_byte (length L.parents) t u d)
-                (ltb-true (length L.fields) 128 (both_true (ltb (length L.fields) 128) (pick (eqb flag 1) (ltb (length (those is_static_field L.fields)) 64) (ltb (length (layout L.parents L.fields o)) 8)) r).0) sl;
-            methods = S.methods;
-            place = S.place;
-            placed = S.placed;
-            fieldless = λ h. absurd (omega arith);
-            begun = λ h k. absurd (omega arith);
-          },
-        )
+        let many : length L.parents ≤ 32 = Z.classes.few in
+        record {
+          counted = cc (statics_new L.fields o flag u two, grown L.fields (field_of o flag u));
+          last = refl;
+          classes = Z.classes;
+          fields = field_rows L.parents L.fields S.own N.fields Z.classes.falls Z.fields o flag u t s bound.0 (omega (arith, bound.1)) two
+              (leb-true (last_of no_field L.fields).owner o (both_true (follows L.last 2) (leb (last_of no_field L.fields).owner o) a).1) (type_byte (length L.parents) t u d)
+              (ltb-true (length L.fields) 128 (both_true (ltb (length L.fields) 128) (pick (eqb flag 1) (ltb (length (those is_static_field L.fields)) 64) (ltb (length (layout L.parents L.fields o)) 8)) r).0) sl;
+          methods = Z.methods;
+          place = Z.place;
+          placed = Z.placed;
+          fieldless = λ h. absurd (omega arith);
+          begun = λ h k. absurd (omega arith);
+        }
 
--- with the arrays as the code has them
-pub field_taken : (code : List ℕ) (L : Loading) (A : Arrays) (own fields : List ℕ) (o flag t s : ℕ) (g : Progress) → g ≡ progress_of L
-    → s ≡ pick (eqb flag 1) (length (those is_static_field L.fields)) (length (layout L.parents L.fields o)) → Stands code L (with_fields A own fields)
-    → (n : ℕ) → n ≡ field_number g.last (get_or fields (g.fields * 4 + 0) 0) g.classes g.fields o flag t s → n ≡ 0 → (after : List ℕ) → after ≡ stored 4 (g.fields + 1) fields (field_cells o flag t s)
-    → Goes (field_record L o flag t) 0 (λ K.
-    (◌≡◌ {A = Progress} (record { last = 2; classes = g.classes; fields = g.fields + 1; statics = g.statics + flag; methods = g.methods; entry = g.entry }) (progress_of K))
-    × Stands code K (with_fields A (set own o (get_or own o 0 + (1 - flag))) after))
-field_taken code L A own fields o flag t s g e sl S n en z after ea =
-    subst (λ (f : List ℕ). Goes (field_record L o flag t) 0 (λ K.
-    (◌≡◌ {A = Progress} (record { last = 2; classes = g.classes; fields = g.fields + 1; statics = g.statics + flag; methods = g.methods; entry = g.entry }) (progress_of K))
-    × Stands code K (with_fields A (set own o (get_or own o 0 + (1 - flag))) f))) (sym ea)
-    (accept _ _ n _ en (field_goes code L A own fields o flag t s g e sl S) z)
+-- with the rows as the code has them
+pub field_taken : (code : List ℕ) (L : Loading) (N : Loaded) (S : Notes) (o flag t s : ℕ) → Stands code L N S
+    → s ≡ pick (eqb flag 1) (length (those is_static_field L.fields)) (length (layout L.parents L.fields o))
+    → Ok tt ≡ field_allowed S.last (get_or N.fields (N.counts.fields * 4 + 0) 0) N.counts.classes N.counts.fields o flag t s
+    → (f : List ℕ) → f ≡ stored 4 (N.counts.fields + 1) N.fields (field_cells o flag t s)
+    → Goes (field_record L o flag t) (Ok tt) (λ K. Stands code K (field_in N N.counts f flag) (field_noted S o flag))
+field_taken code L N S o flag t s Z sl q f e =
+    subst (λ (f : List ℕ). Goes (field_record L o flag t) (Ok tt) (λ K. Stands code K (field_in N N.counts f flag) (field_noted S o flag))) (sym e)
+    (accept _ _ _ q (field_goes code L N S o flag t s Z sl))

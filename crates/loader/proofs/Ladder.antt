@@ -10,36 +10,39 @@ use Rattle.model.specs.Answer.{Answer, bad, ok, ◌>>=◌, guard, need, pick, on
 use Rattle.model.specs.Tables.{Ty, int32, int64, F, class, byte_of, type_at, Sort, sort_at, sort_byte, static, instance, virtual, constructor, initialiser}
 use Rattle.model.specs.Loading.{within, parent_fits, return_at}
 use Rattle.loaded.specs.Holds.{byte_at}
+use Rattle.std.specs.Prelude.{Result, Ok, Err, ⊤}
+use Rattle.loader.specs.declared.refusal.Refusal.{Refusal}
+use Rattle.loader.specs.Refusals.{number_of}
 use Rattle.loader.specs.Goes.{Goes}
 
 -- ---- Rules
 
-pub goes_guard : {A : Type 0} (b : Bool) (n : ℕ) (f : Unit {0} → Answer ℕ A) (k : ℕ) (P : A → Type 0) → 2 ≤ n → n ≤ 6 → (b ≡ true → Goes (f tt) k P) → Goes (guard b n >>= f) (pick b k n) P
+pub goes_guard : {A : Type 0} (b : Bool) (n : ℕ) (f : Unit {0} → Answer ℕ A) (k : Result ⊤ Refusal) (P : A → Type 0) (e : Refusal) → number_of e ≡ n → 2 ≤ n → n ≤ 6 → (b ≡ true → Goes (f tt) k P) → Goes (guard b n >>= f) (pick b k (Err e)) P
 unfolding Goes guard ◌>>=◌ pick
-goes_guard true n f k P lo hi h = h refl
-goes_guard false n f k P lo hi h = (refl, lo, hi)
+goes_guard true n f k P e q lo hi h = h refl
+goes_guard false n f k P e q lo hi h = (q, lo, hi)
 
-pub goes_need : {A B : Type 0} (o : Option B) (n : ℕ) (f : B → Answer ℕ A) (k : ℕ) (P : A → Type 0) → 2 ≤ n → n ≤ 6 → ((x : B) → o ≡ some x → Goes (f x) k P) → Goes (need o n >>= f) (pick (not (is_none o)) k n) P
+pub goes_need : {A B : Type 0} (o : Option B) (n : ℕ) (f : B → Answer ℕ A) (k : Result ⊤ Refusal) (P : A → Type 0) (e : Refusal) → number_of e ≡ n → 2 ≤ n → n ≤ 6 → ((x : B) → o ≡ some x → Goes (f x) k P) → Goes (need o n >>= f) (pick (not (is_none o)) k (Err e)) P
 unfolding Goes need ◌>>=◌ pick is_none
-goes_need none n f k P lo hi h = (refl, lo, hi)
-goes_need (some x) n f k P lo hi h = h x refl
+goes_need none n f k P e q lo hi h = (q, lo, hi)
+goes_need (some x) n f k P e q lo hi h = h x refl
 
 -- the same beside a test or a byte's rule that says it in other words
-pub goes_test : {A : Type 0} (b c : Bool) (n : ℕ) (f : Unit {0} → Answer ℕ A) (k : ℕ) (P : A → Type 0) → 2 ≤ n → n ≤ 6 → c ≡ b → (b ≡ true → Goes (f tt) k P) → Goes (guard b n >>= f) (pick c k n) P
-goes_test b c n f k P lo hi e h = subst (λ (d : Bool). Goes (guard b n >>= f) (pick d k n) P) (sym e) (goes_guard b n f k P lo hi h)
+pub goes_test : {A : Type 0} (b c : Bool) (n : ℕ) (f : Unit {0} → Answer ℕ A) (k : Result ⊤ Refusal) (P : A → Type 0) (e : Refusal) → number_of e ≡ n → 2 ≤ n → n ≤ 6 → c ≡ b → (b ≡ true → Goes (f tt) k P) → Goes (guard b n >>= f) (pick c k (Err e)) P
+goes_test b c n f k P e q lo hi w h = subst (λ (d : Bool). Goes (guard b n >>= f) (pick d k (Err e)) P) (sym w) (goes_guard b n f k P e q lo hi h)
 
-pub goes_want : {A B : Type 0} (o : Option B) (c : Bool) (n : ℕ) (f : B → Answer ℕ A) (k : ℕ) (P : A → Type 0) → 2 ≤ n → n ≤ 6 → c ≡ not (is_none o) → ((x : B) → o ≡ some x → Goes (f x) k P) → Goes (need o n >>= f) (pick c k n) P
-goes_want o c n f k P lo hi e h = subst (λ (d : Bool). Goes (need o n >>= f) (pick d k n) P) (sym e) (goes_need o n f k P lo hi h)
+pub goes_want : {A B : Type 0} (o : Option B) (c : Bool) (n : ℕ) (f : B → Answer ℕ A) (k : Result ⊤ Refusal) (P : A → Type 0) (e : Refusal) → number_of e ≡ n → 2 ≤ n → n ≤ 6 → c ≡ not (is_none o) → ((x : B) → o ≡ some x → Goes (f x) k P) → Goes (need o n >>= f) (pick c k (Err e)) P
+goes_want o c n f k P e q lo hi w h = subst (λ (d : Bool). Goes (need o n >>= f) (pick d k (Err e)) P) (sym w) (goes_need o n f k P e q lo hi h)
 
-pub goes_ok : {A : Type 0} (a : A) (P : A → Type 0) → P a → Goes (ok a) 0 P
+pub goes_ok : {A : Type 0} (a : A) (P : A → Type 0) → P a → Goes (ok a) (Ok tt) P
 unfolding Goes
-goes_ok a P p = (refl, p)
+goes_ok a P p = p
 
--- a number other than 0 is a refusal, whatever is asked of what is taken
-pub goes_bad : {A : Type 0} (m : Answer ℕ A) {k : ℕ} (P Q : A → Type 0) → Goes m k P → (k ≡ 0 → ⊥) → Goes m k Q
+-- a refusal, whatever is asked of what is taken
+pub goes_bad : {A : Type 0} (m : Answer ℕ A) (e : Refusal) (P Q : A → Type 0) → Goes m (Err e) P → Goes m (Err e) Q
 unfolding Goes
-goes_bad (bad n) P Q h nz = h
-goes_bad (ok a) P Q h nz = absurd (nz h.0)
+goes_bad (bad n) e P Q h = h
+goes_bad (ok a) e P Q h = absurd h
 
 -- ---- Tests
 

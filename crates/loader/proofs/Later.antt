@@ -9,15 +9,18 @@ use native.Mathlib.Decide.{ℕ_discrete}
 use lib.ListN.{length, get_or, set}
 use lib.Dec.{ltb, eqb}
 use borrow.Author.Tests.{ltb-true, eqb-true, eqb-false, eq-eqb, ne_eqb}
-use Rattle.model.specs.Answer.{pick, is_none, at, those, on_last}
-use Rattle.model.specs.Tables.{Ty, byte_of, Sort, initialiser, sort_byte, is_sort, Method, part_of, method_at, arguments, type_at, is_static_field}
+use Rattle.model.specs.Answer.{pick, is_none, at, on_last}
+use Rattle.model.specs.Tables.{Ty, byte_of, Sort, initialiser, sort_byte, is_sort, Method, part_of, method_at, arguments, type_at}
 use Rattle.model.specs.Loading.{Loading, follows, within, latest, with_param, with_local, on_latest, param_record, local_record, entry_record}
-use Rattle.loader.specs.declared.order.Progress.{Progress}
+use Rattle.std.specs.Prelude.{Ok}
+use Rattle.loaded.specs.declared.Counts.{Counts}
+use Rattle.loaded.specs.declared.Loaded.{Loaded}
+use Rattle.loader.specs.declared.order.Notes.{Notes}
 use Rattle.loaded.specs.Holds.{byte_at}
 use Rattle.loader.specs.Goes.{Goes}
 use Rattle.loader.specs.Rules.{EntryRule}
-use Rattle.loader.specs.Numbers.{is_type, param_number, local_number, entry_number}
-use Rattle.loader.specs.Stands.{Cell, put, stored, method_column, root_at, method_cell, part_cell, MethodCells, Sound, MethodRows, Arrays, with_rows, Stands, progress_of}
+use Rattle.loader.specs.Allowed.{is_type, param_allowed, local_allowed, entry_allowed}
+use Rattle.loader.specs.Stands.{Cell, put, stored, method_column, root_at, method_cell, part_cell, MethodCells, Sound, MethodRows, Stands, counts_of}
 use Rattle.loader.proofs.Rows.{length_last, grown}
 use Rattle.loader.proofs.Grid.{after, Below, grid_as, grid_row}
 use Rattle.loader.proofs.Methods.{method_last, method_kept, unchanged, latest_at, root_kept, initialisers_last, columns, argument_column, local_column, byte_there, byte_here, arguments_param, arguments_more}
@@ -211,113 +214,116 @@ latest_is : (L : Loading) → latest L ≡ method_at L.methods (length L.methods
 unfolding latest
 latest_is L = latest_at L.methods
 
-abbrev pub ParamTo : List ℕ → Loading → Arrays → List ℕ → ℕ → Progress → Type 0
-ParamTo code L A a t g =
-    Goes (param_record L t) (param_number g.last g.classes t (get_or a (g.methods * 32 + 28) 0) (get_or a (g.methods * 32 + 24) 0)) (λ K.
-    (◌≡◌ {A = Progress} (record { last = 4; classes = g.classes; fields = g.fields; statics = g.statics; methods = g.methods; entry = g.entry }) (progress_of K))
-    × Stands code K (with_rows A (stored 32 g.methods a (param_cells (get_or a (g.methods * 32 + 28) 0) t))))
+-- the module whose method rows are then m
+abbrev pub rows_in : Loaded → List ℕ → Loaded
+rows_in N m = record { counts = N.counts; parents = N.parents; initialisers = N.initialisers; fields = N.fields; methods = m; parts = N.parts }
 
-abbrev pub LocalTo : List ℕ → Loading → Arrays → List ℕ → ℕ → Progress → Type 0
-LocalTo code L A a t g =
-    Goes (local_record L t) (local_number g.last g.classes t (get_or a (g.methods * 32 + 29) 0)) (λ K.
-    (◌≡◌ {A = Progress} (record { last = 5; classes = g.classes; fields = g.fields; statics = g.statics; methods = g.methods; entry = g.entry }) (progress_of K))
-    × Stands code K (with_rows A (stored 32 g.methods a (local_cells (get_or a (g.methods * 32 + 29) 0) t))))
+abbrev pub noted : Notes → ℕ → Notes
+noted S k = record { last = k; own = S.own; places = S.places }
 
-abbrev pub EntryTo : List ℕ → Loading → Arrays → ℕ → Bool → Progress → Type 0
-EntryTo code L A r fits g =
-    Goes (entry_record L r) (entry_number g.last g.methods r fits) (λ K.
-    (◌≡◌ {A = Progress} (record { last = 6; classes = g.classes; fields = g.fields; statics = g.statics; methods = g.methods; entry = r }) (progress_of K))
-    × Stands code K A)
+abbrev pub ParamTo : List ℕ → Loading → Loaded → Notes → ℕ → Counts → ℕ → Type 0
+ParamTo code L N S t n last =
+    Goes (param_record L t) (param_allowed last n.classes t (get_or N.methods (n.methods * 32 + 28) 0) (get_or N.methods (n.methods * 32 + 24) 0)) (λ K.
+    Stands code K (rows_in N (stored 32 n.methods N.methods (param_cells (get_or N.methods (n.methods * 32 + 28) 0) t))) (noted S 4))
 
-module _ (code : List ℕ) (L : Loading) (A : Arrays) (a : List ℕ) (S : Stands code L (with_rows A a)) where
-  later : (k : ℕ) (f : Method → Method) (b : List ℕ) → 3 ≤ L.last → L.last ≤ 5 → 3 ≤ k → MethodRows code (on_last f L.methods) A.initialisers b A.parts → Stands code (on_latest k f L) (with_rows A b)
-  unfolding on_latest
+abbrev pub LocalTo : List ℕ → Loading → Loaded → Notes → ℕ → Counts → ℕ → Type 0
+LocalTo code L N S t n last =
+    Goes (local_record L t) (local_allowed last n.classes t (get_or N.methods (n.methods * 32 + 29) 0)) (λ K.
+    Stands code K (rows_in N (stored 32 n.methods N.methods (local_cells (get_or N.methods (n.methods * 32 + 29) 0) t))) (noted S 5))
+
+module _ (code : List ℕ) (L : Loading) (N : Loaded) (S : Notes) (Z : Stands code L N S) where
+  later : (k : ℕ) (f : Method → Method) (b : List ℕ) → 3 ≤ L.last → L.last ≤ 5 → 3 ≤ k → MethodRows code (on_last f L.methods) N.initialisers b N.parts → Stands code (on_latest k f L) (rows_in N b) (noted S k)
+  unfolding on_latest counts_of
   later k f b lo hi three R = record {
-    classes = S.classes;
-    fields = S.fields;
+    counted = Z.counted ∙ cc (length_last f L.methods);
+    last = refl;
+    classes = Z.classes;
+    fields = Z.fields;
     methods = R;
-    place = S.place;
-    placed = S.placed ∙ sym (length_last f L.methods);
+    place = Z.place;
+    placed = Z.placed ∙ sym (length_last f L.methods);
     fieldless = λ h. absurd (omega arith);
-    begun = λ p q. subst (λ (n : ℕ). 0 < n) (sym (length_last f L.methods)) (S.begun lo hi);
+    begun = λ p q. subst (λ (n : ℕ). 0 < n) (sym (length_last f L.methods)) (Z.begun lo hi);
   }
 
-  ended : (k : ℕ) (f : Method → Method) →
-      ◌≡◌ {A = Progress} (record { last = k; classes = length L.parents; fields = length L.fields; statics = length (those is_static_field L.fields); methods = length L.methods; entry = L.entry }) (progress_of (on_latest k f L))
-  unfolding progress_of on_latest
-  ended k f = cc (length_last f L.methods)
-
-  pub param_goes : (t : ℕ) (g : Progress) → g ≡ progress_of L → ParamTo code L A a t g
-  unfolding param_record param_number progress_of is_type follows pick
-  param_goes t g e = subst (λ (h : Progress). ParamTo code L A a t h) (sym e)
-      (goes_guard (within 3 4 L.last) 3 _ _ _ (omega arith) (omega arith) λ x.
-      goes_need (type_at (length L.parents) t) 4 _ _ _ (omega arith) (omega arith) λ u b.
-      goes_test _ _ 5 _ _ _ (omega arith) (omega arith) (ap (λ (n : ℕ). ltb n 8) (latest_count L S.methods.cell)) λ c.
-      goes_test _ _ 6 _ _ _ (omega arith) (omega arith) (ap not (latest_sort L S.methods.cell)) λ d.
+  pub param_goes : (t : ℕ) → ParamTo code L N S t N.counts S.last
+  unfolding param_record param_allowed counts_of is_type follows pick
+  param_goes t =
+      subst (λ (n : Counts). ParamTo code L N S t n S.last) (sym Z.counted)
+      (subst (ParamTo code L N S t (counts_of L)) (sym Z.last)
+      (goes_guard (within 3 4 L.last) 3 _ _ _ _ refl (omega arith) (omega arith) λ x.
+      goes_need (type_at (length L.parents) t) 4 _ _ _ _ refl (omega arith) (omega arith) λ u b.
+      goes_test _ _ 5 _ _ _ _ refl (omega arith) (omega arith) (ap (λ (n : ℕ). ltb n 8) (latest_count L Z.methods.cell)) λ c.
+      goes_test _ _ 6 _ _ _ _ refl (omega arith) (omega arith) (ap not (latest_sort L Z.methods.cell)) λ d.
       goes_ok _ _ (
       let w = within_true 3 4 L.last x in
       let few : length (arguments (latest L)) < 8 = ltb-true (length (arguments (latest L))) 8 c in
-      let n = latest_count L S.methods.cell in (
-        ended 4 (with_param u),
-        later 4 (with_param u) _ w.0 (omega (arith, w.1)) (omega arith)
-            (param_rows code L.methods A.initialisers a A.parts S.methods (S.begun w.0 (omega (arith, w.1))) u t (type_byte (length L.parents) t u b) _
-            (n ∙ ap (λ (m : Method). length (arguments m)) (latest_is L)) (omega arith)),
-      )))
+      let n = latest_count L Z.methods.cell in
+      later 4 (with_param u) _ w.0 (omega (arith, w.1)) (omega arith)
+      (param_rows code L.methods N.initialisers N.methods N.parts Z.methods (Z.begun w.0 (omega (arith, w.1))) u t (type_byte (length L.parents) t u b) _
+      (n ∙ ap (λ (m : Method). length (arguments m)) (latest_is L)) (omega arith)))))
 
-  pub local_goes : (t : ℕ) (g : Progress) → g ≡ progress_of L → LocalTo code L A a t g
-  unfolding local_record local_number progress_of is_type follows pick
-  local_goes t g e = subst (λ (h : Progress). LocalTo code L A a t h) (sym e)
-      (goes_guard (within 3 5 L.last) 3 _ _ _ (omega arith) (omega arith) λ x.
-      goes_need (type_at (length L.parents) t) 4 _ _ _ (omega arith) (omega arith) λ u b.
-      goes_test _ _ 5 _ _ _ (omega arith) (omega arith) (ap (λ (n : ℕ). ltb n 16) (latest_locals L S.methods.cell)) λ c.
+  pub local_goes : (t : ℕ) → LocalTo code L N S t N.counts S.last
+  unfolding local_record local_allowed counts_of is_type follows pick
+  local_goes t =
+      subst (λ (n : Counts). LocalTo code L N S t n S.last) (sym Z.counted)
+      (subst (LocalTo code L N S t (counts_of L)) (sym Z.last)
+      (goes_guard (within 3 5 L.last) 3 _ _ _ _ refl (omega arith) (omega arith) λ x.
+      goes_need (type_at (length L.parents) t) 4 _ _ _ _ refl (omega arith) (omega arith) λ u b.
+      goes_test _ _ 5 _ _ _ _ refl (omega arith) (omega arith) (ap (λ (n : ℕ). ltb n 16) (latest_locals L Z.methods.cell)) λ c.
       goes_ok _ _ (
       let w = within_true 3 5 L.last x in
       let few : length (latest L).locals < 16 = ltb-true (length (latest L).locals) 16 c in
-      let n = latest_locals L S.methods.cell in (
-        ended 5 (with_local u),
-        later 5 (with_local u) _ w.0 w.1 (omega arith)
-            (local_rows code L.methods A.initialisers a A.parts S.methods (S.begun w.0 w.1) u t (type_byte (length L.parents) t u b) _
-            (n ∙ ap (λ (m : Method). length m.locals) (latest_is L)) (omega arith)),
-      )))
+      let n = latest_locals L Z.methods.cell in
+      later 5 (with_local u) _ w.0 w.1 (omega arith)
+      (local_rows code L.methods N.initialisers N.methods N.parts Z.methods (Z.begun w.0 w.1) u t (type_byte (length L.parents) t u b) _
+      (n ∙ ap (λ (m : Method). length m.locals) (latest_is L)) (omega arith)))))
 
   -- with the values as the code has them
-  pub param_taken : (t : ℕ) (g : Progress) → g ≡ progress_of L → (n : ℕ) → n ≡ param_number g.last g.classes t (get_or a (g.methods * 32 + 28) 0) (get_or a (g.methods * 32 + 24) 0) → n ≡ 0 → (w : ℕ) → w ≡ get_or a (g.methods * 32 + 28) 0
-      → Goes (param_record L t) 0 (λ K.
-      (◌≡◌ {A = Progress} (record { last = 4; classes = g.classes; fields = g.fields; statics = g.statics; methods = g.methods; entry = g.entry }) (progress_of K))
-      × Stands code K (with_rows A (set (set a (g.methods * 32 + 28) (get_or a (g.methods * 32 + 28) 0 + 1)) (g.methods * 32 + w) t)))
+  pub param_taken : (t : ℕ) → Ok tt ≡ param_allowed S.last N.counts.classes t (get_or N.methods (N.counts.methods * 32 + 28) 0) (get_or N.methods (N.counts.methods * 32 + 24) 0) → (w : ℕ) → w ≡ get_or N.methods (N.counts.methods * 32 + 28) 0
+      → Goes (param_record L t) (Ok tt) (λ K. Stands code K (rows_in N (set (set N.methods (N.counts.methods * 32 + 28) (get_or N.methods (N.counts.methods * 32 + 28) 0 + 1)) (N.counts.methods * 32 + w) t)) (noted S 4))
   unfolding stored
-  param_taken t g e n en z w ew =
-      subst (λ (i : ℕ). Goes (param_record L t) 0 (λ K.
-      (◌≡◌ {A = Progress} (record { last = 4; classes = g.classes; fields = g.fields; statics = g.statics; methods = g.methods; entry = g.entry }) (progress_of K))
-      × Stands code K (with_rows A (set (set a (g.methods * 32 + 28) (get_or a (g.methods * 32 + 28) 0 + 1)) (g.methods * 32 + i) t)))) (sym ew)
-      (accept _ _ n _ en (param_goes t g e) z)
+  param_taken t q w ew =
+      subst (λ (i : ℕ). Goes (param_record L t) (Ok tt) (λ K. Stands code K (rows_in N (set (set N.methods (N.counts.methods * 32 + 28) (get_or N.methods (N.counts.methods * 32 + 28) 0 + 1)) (N.counts.methods * 32 + i) t)) (noted S 4))) (sym ew)
+      (accept _ _ _ q (param_goes t))
 
-  pub local_taken : (t : ℕ) (g : Progress) → g ≡ progress_of L → (n : ℕ) → n ≡ local_number g.last g.classes t (get_or a (g.methods * 32 + 29) 0) → n ≡ 0 → (w : ℕ) → w ≡ get_or a (g.methods * 32 + 29) 0
-      → Goes (local_record L t) 0 (λ K.
-      (◌≡◌ {A = Progress} (record { last = 5; classes = g.classes; fields = g.fields; statics = g.statics; methods = g.methods; entry = g.entry }) (progress_of K))
-      × Stands code K (with_rows A (set (set a (g.methods * 32 + 29) (get_or a (g.methods * 32 + 29) 0 + 1)) (g.methods * 32 + (8 + w)) t)))
+  pub local_taken : (t : ℕ) → Ok tt ≡ local_allowed S.last N.counts.classes t (get_or N.methods (N.counts.methods * 32 + 29) 0) → (w : ℕ) → w ≡ get_or N.methods (N.counts.methods * 32 + 29) 0
+      → Goes (local_record L t) (Ok tt) (λ K. Stands code K (rows_in N (set (set N.methods (N.counts.methods * 32 + 29) (get_or N.methods (N.counts.methods * 32 + 29) 0 + 1)) (N.counts.methods * 32 + (8 + w)) t)) (noted S 5))
   unfolding stored
-  local_taken t g e n en z w ew =
-      subst (λ (i : ℕ). Goes (local_record L t) 0 (λ K.
-      (◌≡◌ {A = Progress} (record { last = 5; classes = g.classes; fields = g.fields; statics = g.statics; methods = g.methods; entry = g.entry }) (progress_of K))
-      × Stands code K (with_rows A (set (set a (g.methods * 32 + 29) (get_or a (g.methods * 32 + 29) 0 + 1)) (g.methods * 32 + (8 + i)) t)))) (sym ew)
-      (accept _ _ n _ en (local_goes t g e) z)
+  local_taken t q w ew =
+      subst (λ (i : ℕ). Goes (local_record L t) (Ok tt) (λ K. Stands code K (rows_in N (set (set N.methods (N.counts.methods * 32 + 29) (get_or N.methods (N.counts.methods * 32 + 29) 0 + 1)) (N.counts.methods * 32 + (8 + i)) t)) (noted S 5))) (sym ew)
+      (accept _ _ _ q (local_goes t))
 
-pub entry_goes : (code : List ℕ) (L : Loading) (A : Arrays) → Stands code L A → (r : ℕ) (fits : Bool) (g : Progress) → g ≡ progress_of L → EntryRule L r fits → EntryTo code L A r fits g
-unfolding entry_record entry_number progress_of EntryRule
-entry_goes code L A S r fits g e rule = subst (λ (h : Progress). EntryTo code L A r fits h) (sym e)
-    (goes_guard (follows L.last 6) 3 _ _ _ (omega arith) (omega arith) λ a.
-    goes_guard (within 1 (length L.methods) r) 4 _ _ _ (omega arith) (omega arith) λ b.
-    goes_test _ fits 6 _ _ _ (omega arith) (omega arith) (rule (within_true 1 (length L.methods) r b).1) λ c.
-    goes_ok _ _ (
-      refl,
-      record {
-        classes = S.classes;
-        fields = S.fields;
-        methods = S.methods;
-        place = S.place;
-        placed = S.placed;
-        fieldless = λ h. absurd (omega arith);
-        begun = λ p q. absurd (omega arith);
-      },
-    ))
+-- the module after the entry
+abbrev pub entry_in : Loaded → Counts → ℕ → Loaded
+entry_in N n r = record {
+  counts = record { classes = n.classes; fields = n.fields; statics = n.statics; methods = n.methods; entry = r };
+  parents = N.parents;
+  initialisers = N.initialisers;
+  fields = N.fields;
+  methods = N.methods;
+  parts = N.parts;
+}
+
+abbrev pub EntryTo : List ℕ → Loading → Loaded → Notes → ℕ → Bool → Counts → ℕ → Type 0
+EntryTo code L N S r fits n last = Goes (entry_record L r) (entry_allowed last n.methods r fits) (λ K. Stands code K (entry_in N n r) (noted S 6))
+
+pub entry_goes : (code : List ℕ) (L : Loading) (N : Loaded) (S : Notes) → Stands code L N S → (r : ℕ) (fits : Bool) → EntryRule L r fits → EntryTo code L N S r fits N.counts S.last
+unfolding entry_record entry_allowed counts_of EntryRule
+entry_goes code L N S Z r fits rule =
+    subst (λ (n : Counts). EntryTo code L N S r fits n S.last) (sym Z.counted)
+    (subst (EntryTo code L N S r fits (counts_of L)) (sym Z.last)
+    (goes_guard (follows L.last 6) 3 _ _ _ _ refl (omega arith) (omega arith) λ a.
+    goes_guard (within 1 (length L.methods) r) 4 _ _ _ _ refl (omega arith) (omega arith) λ b.
+    goes_test _ fits 6 _ _ _ _ refl (omega arith) (omega arith) (rule (within_true 1 (length L.methods) r b).1) λ c.
+    goes_ok _ _ (record {
+      counted = refl;
+      last = refl;
+      classes = Z.classes;
+      fields = Z.fields;
+      methods = Z.methods;
+      place = Z.place;
+      placed = Z.placed;
+      fieldless = λ h. absurd (omega arith);
+      begun = λ p q. absurd (omega arith);
+    })))

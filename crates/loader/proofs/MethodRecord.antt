@@ -9,16 +9,20 @@ use lib.ListN.{length, get_or, set, drop, length-drop}
 use lib.Seq.{length-take-le}
 use lib.Dec.{leb, ltb, eqb}
 use borrow.Author.Tests.{leb-true, ltb-true, ltb-false, eqb-true, eqb-false, ne_eqb}
-use Rattle.model.specs.Answer.{Answer, pick, is_none, at, those}
-use Rattle.model.specs.Tables.{Ty, byte_of, Sort, static, instance, virtual, constructor, initialiser, sort_byte, is_sort, Method, part_of, method_at, this_of, arguments, root, initialiser_of, is_static_field, sort_at}
+use Rattle.model.specs.Answer.{Answer, pick, is_none, at}
+use Rattle.model.specs.Tables.{Ty, byte_of, Sort, static, instance, virtual, constructor, initialiser, sort_byte, is_sort, Method, part_of, method_at, this_of, arguments, root, initialiser_of, sort_at}
 use Rattle.model.specs.Loading.{Loading, follows, within, return_at, override_fits, root_free, sort_fits, code_fits, method_record}
-use Rattle.loader.specs.declared.order.Progress.{Progress}
+use Rattle.std.specs.Prelude.{Result, Ok, ⊤}
+use Rattle.loaded.specs.declared.Counts.{Counts}
+use Rattle.loaded.specs.declared.Loaded.{Loaded}
+use Rattle.loader.specs.declared.order.Notes.{Notes}
+use Rattle.loader.specs.declared.refusal.Refusal.{Refusal}
 use Rattle.loader.specs.declared.method.Body.{Body}
 use Rattle.loaded.specs.Holds.{byte_at}
 use Rattle.loader.specs.Goes.{Goes}
 use Rattle.loader.specs.Rules.{OverrideRule, SortRule}
-use Rattle.loader.specs.Numbers.{is_return, code_in, method_number}
-use Rattle.loader.specs.Stands.{Column, stored, method_column, root_at, method_cell, part_cell, method_cells, part_cells, marked, this_byte, one_if, root_in, Sound, MethodRows, Arrays, with_methods, Stands, progress_of}
+use Rattle.loader.specs.Allowed.{is_return, code_in, method_allowed}
+use Rattle.loader.specs.Stands.{Column, stored, method_column, root_at, method_cell, part_cell, method_cells, part_cells, marked, this_byte, one_if, root_in, Sound, MethodRows, Stands, counts_of}
 use Rattle.loader.proofs.Rows.{column_snoc, grown}
 use Rattle.loader.proofs.Grid.{after, Below, grid_row}
 use Rattle.loader.proofs.Methods.{method_here, method_there, rows_snoc, overrides_below, root_there, root_snoc, root_new, initialisers_new, columns, argument_column, local_column, cell_past}
@@ -200,97 +204,102 @@ and_assoc : (a b c : Bool) → (a && b) && c ≡ a && (b && c)
 and_assoc true b c = refl
 and_assoc false b c = refl
 
--- the arrays after a method
-abbrev pub filled : Arrays → List ℕ → List ℕ → List ℕ → List ℕ → Body → ℕ → ℕ → Arrays
-filled A inits a parts places b place n =
-    with_methods A (marked inits b.sort b.owner (n + 1))
-    (stored 32 (n + 1) a (method_cells b (one_if (this_byte b.sort b.owner)) (this_byte b.sort b.owner) (root_in a (n + 1) b.overridden)))
-    (stored 2 (n + 1) parts (part_cells b.offset b.size)) (set places (n + 1) place)
+-- the module and the notes after a method, whose initialisers, rows and parts are then i, m and p
+abbrev pub method_in : Loaded → Counts → List ℕ → List ℕ → List ℕ → Loaded
+method_in N n i m p = record {
+  counts = record { classes = n.classes; fields = n.fields; statics = n.statics; methods = n.methods + 1; entry = n.entry };
+  parents = N.parents;
+  initialisers = i;
+  fields = N.fields;
+  methods = m;
+  parts = p;
+}
+
+abbrev pub method_noted : Notes → ℕ → ℕ → Notes
+method_noted S place n = record { last = 3; own = S.own; places = set S.places (n + 1) place }
+
+abbrev pub filled : Loaded → Body → Counts → Loaded
+filled N b n =
+    method_in N n (marked N.initialisers b.sort b.owner (n.methods + 1))
+    (stored 32 (n.methods + 1) N.methods (method_cells b (one_if (this_byte b.sort b.owner)) (this_byte b.sort b.owner) (root_in N.methods (n.methods + 1) b.overridden)))
+    (stored 2 (n.methods + 1) N.parts (part_cells b.offset b.size))
 
 abbrev pub record_of : List ℕ → Loading → ℕ → Body → Answer ℕ Loading
 record_of code L place b = method_record code L place b.owner b.sort b.returns b.stack b.overridden b.offset b.size
 
-abbrev pub number_of : Progress → Body → ℕ → Bool → Bool → ℕ
-number_of g b code over fits = method_number g.last g.classes g.methods b.owner b.sort b.returns b.stack (code_in code b.offset b.size) over fits
+abbrev pub allowed : ℕ → Counts → Body → ℕ → Bool → Bool → Result ⊤ Refusal
+allowed last n b code over fits = method_allowed last n.classes n.methods b.owner b.sort b.returns b.stack (code_in code b.offset b.size) over fits
 
-abbrev pub MethodTo : List ℕ → Loading → Arrays → List ℕ → List ℕ → List ℕ → List ℕ → Body → ℕ → ℕ → Progress → Type 0
-MethodTo code L A inits a parts places b place number g =
-    Goes (record_of code L place b) number (λ K.
-    (◌≡◌ {A = Progress} (record { last = 3; classes = g.classes; fields = g.fields; statics = g.statics; methods = g.methods + 1; entry = g.entry }) (progress_of K))
-    × Stands code K (filled A inits a parts places b place g.methods))
+abbrev pub MethodTo : List ℕ → Loading → Loaded → Notes → Body → ℕ → Bool → Bool → Counts → ℕ → Type 0
+MethodTo code L N S b place over fits n last =
+    Goes (record_of code L place b) (allowed last n b (length code) over fits) (λ K. Stands code K (filled N b n) (method_noted S place n.methods))
 
-module _ (code : List ℕ) (L : Loading) (A : Arrays) (inits a parts places : List ℕ) (S : Stands code L (with_methods A inits a parts places)) (b : Body) (place : ℕ) where
+module _ (code : List ℕ) (L : Loading) (N : Loaded) (S : Notes) (Z : Stands code L N S) (b : Body) (place : ℕ) where
   After : Loading → Type 0
-  After K =
-      (◌≡◌ {A = Progress} (record { last = 3; classes = length L.parents; fields = length L.fields; statics = length (those is_static_field L.fields); methods = length L.methods + 1; entry = L.entry }) (progress_of K))
-      × Stands code K (filled A inits a parts places b place (length L.methods))
+  After K = Stands code K (filled N b (counts_of L)) (method_noted S place (length L.methods))
 
   taken : (k : Sort) (u : Option Ty) → within 1 (length L.parents) b.owner ≡ true → sort_at b.sort ≡ some k → return_at (length L.parents) b.returns ≡ some u → code_fits code b.offset b.size ≡ true → ltb (length L.methods) 128 ≡ true
       → override_fits L (method_of code b k u) && (root_free L (method_of code b k u) && sort_fits L (method_of code b k u)) ≡ true
       → After (record { last = 3; parents = L.parents; fields = L.fields; entry = L.entry; methods = L.methods ++ (method_of code b k u ∷ []); places = L.places ++ (place ∷ []) })
-  unfolding After code_fits progress_of
+  unfolding After code_fits counts_of
   taken k u x c d f h w =
       let m = method_of code b k u in
       let own = within_true 1 (length L.parents) b.owner x in
-      let many : length L.parents ≤ 32 = S.classes.few in
+      let many : length L.parents ≤ 32 = Z.classes.few in
       let rules = both_true (override_fits L m) _ w in
       let over = override_says L m rules.0 in
       let sorts = sort_says L m (both_true (root_free L m) _ rules.1).1 in
       let fits = leb-true (b.offset + b.size) (length code) (both_true (within 1 1024 b.size) _ f).1 in
-      let room = ltb-true (length L.methods) 128 h in (
-        cc (grown L.methods m),
-        record {
-          classes = S.classes;
-          fields = S.fields;
-          methods = method_rows code L.methods inits a parts S.methods b k u (sort_byte_lem b.sort k c) (return_byte (length L.parents) b.returns u d) (return_void (length L.parents) b.returns u d)
-              (omega (arith, own.1)) fits room (below (ltb 0 b.overridden) refl (λ q. (over q).0)) (λ q. ((over q).1, (over q).2)) sorts;
-          place = subst (λ (i : ℕ). Column 129 (L.places ++ (place ∷ [])) (set places (i + 1) place)) S.placed (column_snoc S.place (let q = S.placed in omega arith) place);
-          placed = grown L.places place ∙ ap (λ (i : ℕ). i + 1) S.placed ∙ sym (grown L.methods m);
-          fieldless = λ q. absurd (omega arith);
-          begun = λ p q. let z = grown L.methods m in omega arith;
-        },
-      )
+      let room = ltb-true (length L.methods) 128 h in
+      record {
+        counted = cc (grown L.methods m);
+        last = refl;
+        classes = Z.classes;
+        fields = Z.fields;
+        methods = method_rows code L.methods N.initialisers N.methods N.parts Z.methods b k u (sort_byte_lem b.sort k c) (return_byte (length L.parents) b.returns u d) (return_void (length L.parents) b.returns u d)
+            (omega (arith, own.1)) fits room (below (ltb 0 b.overridden) refl (λ q. (over q).0)) (λ q. ((over q).1, (over q).2)) sorts;
+        place = subst (λ (i : ℕ). Column 129 (L.places ++ (place ∷ [])) (set S.places (i + 1) place)) Z.placed (column_snoc Z.place (let q = Z.placed in omega arith) place);
+        placed = grown L.places place ∙ ap (λ (i : ℕ). i + 1) Z.placed ∙ sym (grown L.methods m);
+        fieldless = λ q. absurd (omega arith);
+        begun = λ p q. let z = grown L.methods m in omega arith;
+      }
     where
       below : (x : Bool) → ltb 0 b.overridden ≡ x → (0 < b.overridden → b.overridden ≤ length L.methods) → b.overridden ≤ length L.methods
       below true e h = h (ltb-true 0 b.overridden e)
       below false e h = let z = ltb-false 0 b.overridden e in omega arith
 
-  pub method_goes : (over fits : Bool) (g : Progress) → g ≡ progress_of L → OverrideRule L b.owner b.sort b.overridden over → SortRule L b.owner b.sort b.returns fits
-      → MethodTo code L A inits a parts places b place (number_of g b (length code) over fits) g
-  unfolding method_record method_number progress_of is_return code_in code_fits OverrideRule SortRule After
-  method_goes over fits g e rule sorts =
-      subst (λ (h : Progress). MethodTo code L A inits a parts places b place (number_of h b (length code) over fits) h) (sym e)
-      (goes_guard (follows L.last 3) 3 _ _ After (omega arith) (omega arith) λ x.
-      goes_guard (within 1 (length L.parents) b.owner) 4 _ _ After (omega arith) (omega arith) λ y.
-      goes_want (sort_at b.sort) (leb b.sort 4) 4 _ _ After (omega arith) (omega arith) (sym (sort_test b.sort)) λ k c.
-      goes_need (return_at (length L.parents) b.returns) 4 _ _ After (omega arith) (omega arith) λ u d.
-      goes_guard (leb b.stack 32) 4 _ _ After (omega arith) (omega arith) λ i.
-      goes_guard (code_fits code b.offset b.size) 4 _ _ After (omega arith) (omega arith) λ f.
-      goes_guard (ltb (length L.methods) 128) 5 _ _ After (omega arith) (omega arith) λ h.
-      goes_test _ (over && fits) 6 _ _ After (omega arith) (omega arith)
+  pub method_goes : (over fits : Bool) → OverrideRule L b.owner b.sort b.overridden over → SortRule L b.owner b.sort b.returns fits
+      → (size : ℕ) → size ≡ length code → Goes (record_of code L place b) (allowed S.last N.counts b size over fits) (λ K. Stands code K (filled N b N.counts) (method_noted S place N.counts.methods))
+  unfolding method_record method_allowed counts_of is_return code_in code_fits OverrideRule SortRule After
+  method_goes over fits rule sorts size es =
+      subst (λ (i : ℕ). Goes (record_of code L place b) (allowed S.last N.counts b i over fits) (λ K. Stands code K (filled N b N.counts) (method_noted S place N.counts.methods))) (sym es)
+      (subst (λ (n : Counts). MethodTo code L N S b place over fits n S.last) (sym Z.counted)
+      (subst (MethodTo code L N S b place over fits (counts_of L)) (sym Z.last)
+      (goes_guard (follows L.last 3) 3 _ _ After _ refl (omega arith) (omega arith) λ x.
+      goes_guard (within 1 (length L.parents) b.owner) 4 _ _ After _ refl (omega arith) (omega arith) λ y.
+      goes_want (sort_at b.sort) (leb b.sort 4) 4 _ _ After _ refl (omega arith) (omega arith) (sym (sort_test b.sort)) λ k c.
+      goes_need (return_at (length L.parents) b.returns) 4 _ _ After _ refl (omega arith) (omega arith) λ u d.
+      goes_guard (leb b.stack 32) 4 _ _ After _ refl (omega arith) (omega arith) λ i.
+      goes_guard (code_fits code b.offset b.size) 4 _ _ After _ refl (omega arith) (omega arith) λ f.
+      goes_guard (ltb (length L.methods) 128) 5 _ _ After _ refl (omega arith) (omega arith) λ h.
+      goes_test _ (over && fits) 6 _ _ After _ refl (omega arith) (omega arith)
       (ap (λ (z : Bool). z && fits) (rule (method_of code b k u) refl (sort_byte_lem b.sort k c) refl)
       ∙ ap (λ (z : Bool). (override_fits L (method_of code b k u) && root_free L (method_of code b k u)) && z) (sorts (method_of code b k u) refl (sort_byte_lem b.sort k c) (return_void (length L.parents) b.returns u d))
       ∙ and_assoc (override_fits L (method_of code b k u)) (root_free L (method_of code b k u)) (sort_fits L (method_of code b k u))) λ w.
-      goes_ok _ After (taken k u y c d f h w))
+      goes_ok _ After (taken k u y c d f h w))))
 
-  -- with the values and arrays as the code has them
-  pub method_taken : (over fits : Bool) (g : Progress) → g ≡ progress_of L → OverrideRule L b.owner b.sort b.overridden over → SortRule L b.owner b.sort b.returns fits
-      → (n : ℕ) → n ≡ number_of g b (length code) over fits → n ≡ 0 → (this count q : ℕ) → this ≡ this_byte b.sort b.owner → count ≡ one_if this → q ≡ root_in a (g.methods + 1) b.overridden
-      → (i m p : List ℕ) → i ≡ marked inits b.sort b.owner (g.methods + 1) → m ≡ stored 32 (g.methods + 1) a (method_cells b count this q) → p ≡ stored 2 (g.methods + 1) parts (part_cells b.offset b.size)
-      → Goes (record_of code L place b) 0 (λ K.
-      (◌≡◌ {A = Progress} (record { last = 3; classes = g.classes; fields = g.fields; statics = g.statics; methods = g.methods + 1; entry = g.entry }) (progress_of K))
-      × Stands code K (with_methods A i m p (set places (g.methods + 1) place)))
-  method_taken over fits g e rule sorts n en z this count q et ec eq i m p ei em ep =
-      subst (λ (x : List ℕ). Made x m p) (sym ei)
-      (subst (λ (x : List ℕ). Made (marked inits b.sort b.owner (g.methods + 1)) x p) (sym (em ∙ cells))
-      (subst (λ (x : List ℕ). Made (marked inits b.sort b.owner (g.methods + 1)) (stored 32 (g.methods + 1) a (method_cells b (one_if (this_byte b.sort b.owner)) (this_byte b.sort b.owner) (root_in a (g.methods + 1) b.overridden))) x) (sym ep)
-      (accept _ _ n _ en (method_goes over fits g e rule sorts) z)))
+  -- with the values and rows as the code has them
+  pub method_taken : (over fits : Bool) → OverrideRule L b.owner b.sort b.overridden over → SortRule L b.owner b.sort b.returns fits
+      → (size : ℕ) → size ≡ length code → Ok tt ≡ allowed S.last N.counts b size over fits
+      → (this count q : ℕ) → this ≡ this_byte b.sort b.owner → count ≡ one_if this → q ≡ root_in N.methods (N.counts.methods + 1) b.overridden
+      → (i m p : List ℕ) → i ≡ marked N.initialisers b.sort b.owner (N.counts.methods + 1) → m ≡ stored 32 (N.counts.methods + 1) N.methods (method_cells b count this q) → p ≡ stored 2 (N.counts.methods + 1) N.parts (part_cells b.offset b.size)
+      → Goes (record_of code L place b) (Ok tt) (λ K. Stands code K (method_in N N.counts i m p) (method_noted S place N.counts.methods))
+  method_taken over fits rule sorts size es z this count q et ec eq i m p ei em ep =
+      subst (λ (x : Loaded). Goes (record_of code L place b) (Ok tt) (λ K. Stands code K x (method_noted S place N.counts.methods))) (sym same)
+      (accept _ _ _ z (method_goes over fits rule sorts size es))
     where
-      Made : List ℕ → List ℕ → List ℕ → Type 0
-      Made i m p =
-          Goes (record_of code L place b) 0 (λ K.
-          (◌≡◌ {A = Progress} (record { last = 3; classes = g.classes; fields = g.fields; statics = g.statics; methods = g.methods + 1; entry = g.entry }) (progress_of K))
-          × Stands code K (with_methods A i m p (set places (g.methods + 1) place)))
+      cells : stored 32 (N.counts.methods + 1) N.methods (method_cells b count this q) ≡ stored 32 (N.counts.methods + 1) N.methods (method_cells b (one_if (this_byte b.sort b.owner)) (this_byte b.sort b.owner) (root_in N.methods (N.counts.methods + 1) b.overridden))
+      cells = λ x. stored 32 (N.counts.methods + 1) N.methods (method_cells b ((ec ∙ ap one_if et) x) (et x) (eq x))
 
-      cells : stored 32 (g.methods + 1) a (method_cells b count this q) ≡ stored 32 (g.methods + 1) a (method_cells b (one_if (this_byte b.sort b.owner)) (this_byte b.sort b.owner) (root_in a (g.methods + 1) b.overridden))
-      cells = λ x. stored 32 (g.methods + 1) a (method_cells b ((ec ∙ ap one_if et) x) (et x) (eq x))
+      same : method_in N N.counts i m p ≡ filled N b N.counts
+      same = λ x. method_in N N.counts (ei x) ((em ∙ cells) x) (ep x)

@@ -11,14 +11,18 @@ use lib.Dec.{leb, ltb, eqb}
 use borrow.Author.Tests.{le-leb, lt-leb, lt-ltb, le-ltb, ltb-true, ltb-false, eqb-true, eqb-false}
 use Rattle.model.specs.Answer.{Answer, bad, ok, ◌>>=◌, guard, need, blame, pick, or_else, only_if, is_none, at, row, those, first_row}
 use Rattle.model.specs.Tables.{Method, part_of, no_method, method_at, arguments, this_of, parent_of, root, initialiser_of}
-use Rattle.model.specs.Loading.{Loading, Refusal, refusal, nothing, body_bytes, Read, one_record, read_record, records}
-use Rattle.loaded.specs.Holds.{byte_at, from_row, zeros}
-use Rattle.loader.specs.declared.order.Progress.{Progress}
-use Rattle.loader.specs.declared.records.Reading.{Reading}
-use Rattle.loader.specs.Answers.{blank, Reads}
+use Rattle.model.specs.Loading.{Loading, Refusal as Refused, refusal, nothing, body_bytes, Read, one_record, read_record, records}
+use Rattle.loaded.specs.Holds.{byte_at, from_row, zeros, no_counts, nothing as nothing_loaded}
+use Rattle.std.specs.Prelude.{Ok, Err, ⊤}
+use Rattle.loaded.specs.declared.Fault.{Fault}
+use Rattle.loaded.specs.declared.Loaded.{Loaded}
+use Rattle.loader.specs.declared.order.Notes.{Notes}
+use Rattle.loader.specs.declared.refusal.Refusal.{Refusal}
+use Rattle.loader.specs.Refusals.{number_of, fault_of}
+use Rattle.loader.specs.Answers.{Answers}
 use Rattle.loader.specs.Body.{bytes_at}
 use Rattle.loader.specs.Goes.{Goes}
-use Rattle.loader.specs.Stands.{Column, Grid, field_at, method_column, root_at, method_cell, part_cell, Sound, Arrays, Stands, progress_of}
+use Rattle.loader.specs.Stands.{Column, Grid, field_at, method_column, root_at, method_cell, part_cell, Sound, Stands, counts_of, no_notes}
 use Rattle.ancestor.specs.Parents.{Falls}
 use Rattle.loader.proofs.Classes.{no_field}
 use Rattle.loader.proofs.Methods.{column_none}
@@ -78,9 +82,11 @@ no_sound code = record {
   void = λ r. subst (λ (m : Method). is_none m.returns ≡ eqb (byte_at m.returns) 0) (sym (no_method_lem r)) refl;
 }
 
-nothing_stands : (code : List ℕ) → Stands code nothing blank
-unfolding nothing those initialiser_of first_row or_else
+nothing_stands : (code : List ℕ) → Stands code nothing nothing_loaded no_notes
+unfolding nothing nothing_loaded no_counts no_notes counts_of those initialiser_of first_row or_else
 nothing_stands code = record {
+  counted = refl;
+  last = refl;
   classes = record { parent = empty_column 33; falls = no_parent; few = omega arith };
   fields = record {
     own_long = zeros_long 33;
@@ -104,20 +110,24 @@ nothing_stands code = record {
 
 -- ---- What is still to be read at an offset
 
-pub record Going (tables code : List ℕ) (at : ℕ) (g : Progress) (A : Arrays) : Type 0 where
+pub record Going (tables code : List ℕ) (at : ℕ) (N : Loaded) (S : Notes) : Type 0 where
   pub loading : Loading
   pub fuel : ℕ
   pub enough : length tables - at ≤ fuel
   pub rest : records (length tables) tables code 0 nothing ≡ records fuel tables code at loading
-  pub counted : g ≡ progress_of loading
-  pub stands : Stands code loading A
+  pub stands : Stands code loading N S
 
-pub start : (tables code : List ℕ) (g : Progress) → g ≡ progress_of nothing → (A : Arrays) → A ≡ blank → Going tables code 0 g A
-start tables code g e A z =
-    record { loading = nothing; fuel = length tables; enough = omega arith; rest = refl; counted = e; stands = subst (Stands code nothing) (sym z) (nothing_stands code) }
+pub start : (tables code : List ℕ) (N : Loaded) (S : Notes) → N ≡ nothing_loaded → S ≡ no_notes → Going tables code 0 N S
+start tables code N S eN eS = record {
+  loading = nothing;
+  fuel = length tables;
+  enough = omega arith;
+  rest = refl;
+  stands = subst (λ (M : Loaded). Stands code nothing M S) (sym eN) (subst (Stands code nothing nothing_loaded) (sym eS) (nothing_stands code));
+}
 
 -- the refusal of a record at a place
-abbrev pub refused_at : ℕ → ℕ → Refusal
+abbrev pub refused_at : ℕ → ℕ → Refused
 refused_at p n = record { number = n; place = p }
 
 -- one record, and what is left behind it
@@ -128,17 +138,17 @@ one tables code at L zero l e = absurd (omega arith)
 one tables code at L (suc k) l e =
     (k, e, ap (λ (b : Bool). pick b (ok L) (blame (refused_at at) (read_record code L at (drop at tables)) >>= λ R. records k tables code (at + R.size) R.loading)) (lt-leb (length tables) at l))
 
-module _ (tables code : List ℕ) (at : ℕ) (g : Progress) (A : Arrays) (G : Going tables code at g A) where
+module _ (tables code : List ℕ) (at : ℕ) (N : Loaded) (S : Notes) (G : Going tables code at N S) where
   stop : (n : ℕ) → at < length tables → read_record code G.loading at (drop at tables) ≡ bad n → records (length tables) tables code 0 nothing ≡ bad (refused_at at n)
   unfolding blame ◌>>=◌
   stop n l e =
       let o = one tables code at G.loading G.fuel l G.enough in
       G.rest ∙ o.2 ∙ ap (λ (a : Answer ℕ Read). blame (refused_at at) a >>= λ R. records o.0 tables code (at + R.size) R.loading) e
 
-  go_on : (K : Loading) (s : ℕ) (h : Progress) (B : Arrays) → at < length tables → 1 ≤ s
-      → read_record code G.loading at (drop at tables) ≡ ok (record { loading = K; size = s }) → h ≡ progress_of K → Stands code K B → Going tables code (at + s) h B
+  go_on : (K : Loading) (s : ℕ) (M : Loaded) (R : Notes) → at < length tables → 1 ≤ s
+      → read_record code G.loading at (drop at tables) ≡ ok (record { loading = K; size = s }) → Stands code K M R → Going tables code (at + s) M R
   unfolding blame ◌>>=◌
-  go_on K s h B l lo e c S =
+  go_on K s M R l lo e Z =
       let o = one tables code at G.loading G.fuel l G.enough in
       let q = o.1 in
       record {
@@ -146,8 +156,7 @@ module _ (tables code : List ℕ) (at : ℕ) (g : Progress) (A : Arrays) (G : Go
         fuel = o.0;
         enough = omega arith;
         rest = G.rest ∙ o.2 ∙ ap (λ (a : Answer ℕ Read). blame (refused_at at) a >>= λ R. records o.0 tables code (at + R.size) R.loading) e;
-        counted = c;
-        stands = S;
+        stands = Z;
       }
 
   done : length tables ≤ at → records (length tables) tables code 0 nothing ≡ ok G.loading
@@ -245,52 +254,54 @@ module _ (tables code : List ℕ) (at : ℕ) (L : Loading) where
       go true e false f z = absurd (eqb-false _ 0 f z)
       go false e false f z = cut tables code at L _ refl (eqb-false _ 0 f) (ltb-false _ _ e)
 
-goes_refused : {A : Type 0} (m : Answer ℕ A) (n : ℕ) (P : A → Type 0) → Goes m n P → (n ≡ 0 → ⊥) → m ≡ bad n
+goes_refused : {A : Type 0} (m : Answer ℕ A) (e : Refusal) (P : A → Type 0) → Goes m (Err e) P → (m ≡ bad (number_of e)) × (2 ≤ number_of e)
 unfolding Goes
-goes_refused (bad k) n P h nz = ap bad (sym h.0)
-goes_refused (ok a) n P h nz = absurd (nz h.0)
+goes_refused (bad k) e P h = (ap bad (sym h.0), subst (λ (i : ℕ). 2 ≤ i) (sym h.0) h.1)
+goes_refused (ok a) e P h = absurd h
 
-goes_taken : {A : Type 0} (m : Answer ℕ A) (n : ℕ) (P : A → Type 0) → Goes m n P → n ≡ 0 → (a : A) × (m ≡ ok a) × P a
+goes_taken : {A : Type 0} (m : Answer ℕ A) (v : ⊤) (P : A → Type 0) → Goes m (Ok v) P → (a : A) × (m ≡ ok a) × P a
 unfolding Goes
-goes_taken (bad k) n P h z = absurd (let e = h.0 in let l = h.1 in omega arith)
-goes_taken (ok a) n P h z = (a, refl, h.1)
+goes_taken (bad k) v P h = absurd h
+goes_taken (ok a) v P h = (a, refl, h)
 
-reads_bad : (code : List ℕ) (m : Answer Refusal Loading) (p n : ℕ) (r : Reading) (A : Arrays) → m ≡ bad (refused_at p n) → (n ≡ 0 → ⊥) → r.number ≡ n → r.place ≡ p → Reads code m r A
-unfolding Reads
-reads_bad code m p n r A e nz en ep = subst (λ (x : Answer Refusal Loading). Reads code x r A) (sym e) (en, ep, omega arith)
+-- a refusal, by its fault
+pub refuses : {V M : Type 0} (m : Answer Refused M) (p n : ℕ) → m ≡ bad (refused_at p n) → 1 ≤ n → (a : Fault) → a ≡ fault_of (refused_at p n) → (loaded : V → M → Type 0) → Answers m (Err a) ⊤ loaded
+unfolding Answers
+refuses m p n e h a ea loaded = subst (λ (x : Answer Refused _). Answers x (Err a) ⊤ loaded) (sym e) (ea, h, tt)
 
-module _ (tables code : List ℕ) (at : ℕ) (g : Progress) (A : Arrays) (G : Going tables code at g A) where
+module _ (tables code : List ℕ) (at : ℕ) (N : Loaded) (S : Notes) (G : Going tables code at N S) where
   -- 2: an unknown kind or a missing body byte
-  pub reads_two : at < length tables → (n : ℕ) → n ≡ bytes_at tables at → n ≡ 0 → (r : Reading) → r.number ≡ 2 → r.place ≡ at → (B : Arrays) → Reads code (records (length tables) tables code 0 nothing) r B
-  reads_two l n e z r en ep B = reads_bad code _ at 2 r B (stop tables code at g A G 2 l (unread tables code at G.loading (sym e ∙ z))) (λ w. omega arith) en ep
+  pub reads_two : at < length tables → (n : ℕ) → n ≡ bytes_at tables at → n ≡ 0 → (a : Fault) → a ≡ fault_of (refused_at at 2) → {V : Type 0} (loaded : V → Loading → Type 0) → Answers (records (length tables) tables code 0 nothing) (Err a) ⊤ loaded
+  reads_two l n e z a ea loaded = refuses _ at 2 (stop tables code at N S G 2 l (unread tables code at G.loading (sym e ∙ z))) (omega arith) a ea loaded
 
-  module _ (l : at < length tables) (n : ℕ) (e : n ≡ bytes_at tables at) (nz : n ≡ 0 → ⊥) (k : ℕ) (P : Loading → Type 0)
-      (goes : Goes (one_record code G.loading at (get_or tables at 0) (drop 1 (drop at tables))) k P) where
+  module _ (l : at < length tables) (n : ℕ) (e : n ≡ bytes_at tables at) (nz : n ≡ 0 → ⊥) (P : Loading → Type 0) where
     there : (n ≡ or_else (body_bytes (get_or tables at 0)) 0) × (n < length tables - at)
     there =
         let w = bytes_there tables at (λ z. nz (e ∙ z)) in
         (e ∙ w.0, subst (λ (i : ℕ). i < length tables - at) (sym e) w.1)
 
     -- 3 to 6: at the record
-    pub reads_record : (k ≡ 0 → ⊥) → (r : Reading) → r.number ≡ k → r.place ≡ at → (B : Arrays) → Reads code (records (length tables) tables code 0 nothing) r B
+    pub reads_record : (d : Refusal) → Goes (one_record code G.loading at (get_or tables at 0) (drop 1 (drop at tables))) (Err d) P
+        → (a : Fault) → a ≡ fault_of (refused_at at (number_of d)) → {V : Type 0} (loaded : V → Loading → Type 0) → Answers (records (length tables) tables code 0 nothing) (Err a) ⊤ loaded
     unfolding ◌>>=◌
-    reads_record kz r en ep B =
-        reads_bad code _ at k r B
-        (stop tables code at g A G k l (read tables code at G.loading n there.0 nz there.1 ∙ ap (λ (x : Answer ℕ Loading). x >>= λ K. ok (record { loading = K; size = n + 1 })) (goes_refused _ k P goes kz))) kz en ep
+    reads_record d goes a ea loaded =
+        let w = goes_refused _ d P goes in
+        refuses _ at (number_of d)
+        (stop tables code at N S G (number_of d) l (read tables code at G.loading n there.0 nz there.1 ∙ ap (λ (x : Answer ℕ Loading). x >>= λ K. ok (record { loading = K; size = n + 1 })) w.0)) (let q = w.1 in omega arith) a ea loaded
 
-    pub goes_on : (d : Progress) (B : Arrays) → k ≡ 0 → ((K : Loading) → P K → (d ≡ progress_of K) × Stands code K B) → Going tables code (at + n + 1) d B
+    pub goes_on : (v : ⊤) → Goes (one_record code G.loading at (get_or tables at 0) (drop 1 (drop at tables))) (Ok v) P
+        → (M : Loaded) (R : Notes) → ((K : Loading) → P K → Stands code K M R) → Going tables code (at + n + 1) M R
     unfolding ◌>>=◌
-    goes_on d B z f =
-        let w = goes_taken _ k P goes z in
-        let s = f w.0 w.2 in
-        subst (λ (i : ℕ). Going tables code i d B) step
-        (go_on tables code at g A G w.0 (n + 1) d B l (omega arith)
-        (read tables code at G.loading n there.0 nz there.1 ∙ ap (λ (x : Answer ℕ Loading). x >>= λ K. ok (record { loading = K; size = n + 1 })) w.1) s.0 s.1)
+    goes_on v goes M R f =
+        let w = goes_taken _ v P goes in
+        subst (λ (i : ℕ). Going tables code i M R) step
+        (go_on tables code at N S G w.0 (n + 1) M R l (omega arith)
+        (read tables code at G.loading n there.0 nz there.1 ∙ ap (λ (x : Answer ℕ Loading). x >>= λ K. ok (record { loading = K; size = n + 1 })) w.1) (f w.0 w.2))
       where
         step : at + (n + 1) ≡ at + n + 1
         step = omega arith
 
   -- every record is taken
-  pub reads_all : length tables ≤ at → (r : Reading) → r.number ≡ 0 → r.progress ≡ g → Reads code (records (length tables) tables code 0 nothing) r A
-  unfolding Reads
-  reads_all h r en eg = subst (λ (x : Answer Refusal Loading). Reads code x r A) (sym (done tables code at g A G h)) (en, eg ∙ G.counted, G.stands)
+  pub reads_all : length tables ≤ at → {V : Type 0} (v : V) → Answers (records (length tables) tables code 0 nothing) (Ok v) ⊤ (λ u L. Stands code L N S)
+  unfolding Answers
+  reads_all h v = subst (λ (x : Answer Refused Loading). Answers x (Ok v) ⊤ (λ u L. Stands code L N S)) (sym (done tables code at N S G h)) G.stands

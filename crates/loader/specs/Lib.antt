@@ -1,5 +1,6 @@
 pub mod Answers
-pub mod Numbers
+pub mod Refusals
+pub mod Allowed
 pub mod Stands
 pub mod Goes
 pub mod Rules

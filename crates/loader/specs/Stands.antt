@@ -1,15 +1,17 @@
 -- What the arrays hold while loading goes on: each cell the model's value, 0 where there is none.
-use Rattle.std.specs.Prelude.{ℕ, ◌+◌, ◌-◌, ◌*◌, ◌≤◌, ◌<◌, ◌≡◌, List, [], ◌∷◌, length, get_or, set, ltb, eqb}
+use Rattle.std.specs.Prelude.{ℕ, ◌+◌, ◌-◌, ◌*◌, ◌≤◌, ◌<◌, ◌≡◌, List, [], ◌∷◌, length, get_or, set, ltb, eqb, Result, ⊤}
 use Rattle.std.proofs.Math.Option.{some}
 use Rattle.model.specs.Answer.{Answer, pick, or_else, is_none, at, row, those, last_of}
 use Rattle.model.specs.Tables.{byte_of, virtual, sort_byte, Field, Method, part_of, method_at, arguments}
 use Rattle.model.specs.Tables.{is_own, is_static_field, slot, root, initialiser_of}
 use Rattle.model.specs.Loading.{Loading, no_field}
 use Rattle.model.specs.Operators.{flag}
-use Rattle.loaded.specs.Holds.{byte_at, from_row}
+use Rattle.loaded.specs.Holds.{byte_at, from_row, zeros}
 use Rattle.ancestor.specs.Parents.{Falls}
-use Rattle.loader.specs.declared.order.Progress.{Progress}
-use Rattle.loader.specs.declared.order.Step.{Step}
+use Rattle.loaded.specs.declared.Counts.{Counts}
+use Rattle.loaded.specs.declared.Loaded.{Loaded}
+use Rattle.loader.specs.declared.order.Notes.{Notes}
+use Rattle.loader.specs.declared.refusal.Refusal.{Refusal}
 use Rattle.loader.specs.Goes.{Goes}
 use Rattle.loader.specs.declared.method.Body.{Body}
 
@@ -139,44 +141,8 @@ pub record MethodRows (code : List ℕ) (ms : List Method) (initialisers methods
 
 -- ---- All of it
 
-pub record Arrays : Type 0 where
-  pub parents : List ℕ
-  pub own : List ℕ
-  pub fields : List ℕ
-  pub initialisers : List ℕ
-  pub methods : List ℕ
-  pub parts : List ℕ
-  pub places : List ℕ
-
-abbrev pub arrays_of : List ℕ → List ℕ → List ℕ → List ℕ → List ℕ → List ℕ → List ℕ → Arrays
-arrays_of parents own fields initialisers methods parts places =
-    record { parents = parents; own = own; fields = fields; initialisers = initialisers; methods = methods; parts = parts; places = places }
-
-abbrev pub with_parents : Arrays → List ℕ → Arrays
-with_parents A p = arrays_of p A.own A.fields A.initialisers A.methods A.parts A.places
-
-abbrev pub with_fields : Arrays → List ℕ → List ℕ → Arrays
-with_fields A own fields = arrays_of A.parents own fields A.initialisers A.methods A.parts A.places
-
-abbrev pub with_rows : Arrays → List ℕ → Arrays
-with_rows A methods = arrays_of A.parents A.own A.fields A.initialisers methods A.parts A.places
-
-abbrev pub with_methods : Arrays → List ℕ → List ℕ → List ℕ → List ℕ → Arrays
-with_methods A initialisers methods parts places = arrays_of A.parents A.own A.fields initialisers methods parts places
-
-pub record Stands (code : List ℕ) (L : Loading) (A : Arrays) : Type 0 where
-  pub classes : ClassRows L.parents A.parents
-  pub fields : FieldRows L.parents L.fields A.own A.fields
-  pub methods : MethodRows code L.methods A.initialisers A.methods A.parts
-  pub place : Column 129 L.places A.places
-  pub placed : length L.places ≡ length L.methods
-  -- classes come before any field, and a parameter or local after some method
-  pub fieldless : L.last ≤ 1 → L.fields ≡ []
-  pub begun : 3 ≤ L.last → L.last ≤ 5 → 0 < length L.methods
-
-unfoldable pub progress_of : Loading → Progress
-progress_of L = record {
-  last = L.last;
+unfoldable pub counts_of : Loading → Counts
+counts_of L = record {
   classes = length L.parents;
   fields = length L.fields;
   statics = length (those is_static_field L.fields);
@@ -184,12 +150,28 @@ progress_of L = record {
   entry = L.entry;
 }
 
--- a record's step: refused with the model's number, or taken, with arrays that hold what the model has then
-abbrev pub Leads : List ℕ → Answer ℕ Loading → Step → Arrays → Type 0
-Leads code m r A = Goes m r.number (λ K. (r.progress ≡ progress_of K) × Stands code K A)
+pub record Stands (code : List ℕ) (L : Loading) (N : Loaded) (S : Notes) : Type 0 where
+  pub counted : N.counts ≡ counts_of L
+  pub last : S.last ≡ L.last
+  pub classes : ClassRows L.parents N.parents
+  pub fields : FieldRows L.parents L.fields S.own N.fields
+  pub methods : MethodRows code L.methods N.initialisers N.methods N.parts
+  pub place : Column 129 L.places S.places
+  pub placed : length L.places ≡ length L.methods
+  -- classes come before any field, and a parameter or local after some method
+  pub fieldless : L.last ≤ 1 → L.fields ≡ []
+  pub begun : 3 ≤ L.last → L.last ≤ 5 → 0 < length L.methods
+
+-- before the first record
+unfoldable pub no_notes : Notes
+no_notes = record { last = 0; own = zeros 33; places = zeros 129 }
+
+-- a record's end: refused with the model's number, or taken, with a module and notes that hold what the model has then
+abbrev pub Leads : List ℕ → Answer ℕ Loading → Result ⊤ Refusal → Loaded → Notes → Type 0
+Leads code m r N S = Goes m r (λ K. Stands code K N S)
 
 -- how far the counts go, which keeps every index within its array
-pub record Fine (g : Progress) : Type 0 where
+pub record Fine (g : Counts) : Type 0 where
   pub classes : g.classes ≤ 32
   pub fields : g.fields ≤ 128
   pub statics : g.statics ≤ 128

@@ -6,7 +6,6 @@ ghost use Rattle.model.specs.Loading.{differs as differs_of};
 ghost use Rattle.loaded.specs.Holds.{byte_at};
 ghost use Rattle.loader.specs.Stands.{MethodCells, Sound, Earlier};
 
-use crate::order::Progress;
 use crate::ranges::wide;
 use loaded::columns::{ARGUMENT_COUNT, METHOD, OVERRIDDEN, RETURN};
 

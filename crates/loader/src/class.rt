@@ -1,12 +1,14 @@
 // A class record: its parent's row.
 ghost use Rattle.std.specs.Prelude.{◌≡◌, List, ℕ};
 ghost use Rattle.model.specs.Loading.{Loading as LoadingOf, class_record, parent_fits};
-ghost use Rattle.loader.specs.Stands.{Arrays, with_parents, Stands, progress_of, Leads};
-ghost use Rattle.loader.specs.Numbers.{class_number};
+ghost use Rattle.loader.specs.Stands.{Stands, Leads};
+ghost use Rattle.loader.specs.Allowed.{class_allowed};
 
 use crate::numbers;
-use crate::order::{Progress, Step, follows};
+use crate::order::{Notes, follows};
 use crate::ranges::is_row;
+use crate::refusal::Refusal;
+use loaded::Loaded;
 
 // Class 1 is Object, parent 0; every other parent is a smaller row, at least 1.
 fn parent_fits(classes: usize, p: u8) -> bool
@@ -18,44 +20,30 @@ fn parent_fits(classes: usize, p: u8) -> bool
     is_row(classes, p)
 }
 
-// The number that it is refused with, 0 where it is taken.
-fn class_number(last: u8, classes: usize, p: u8) -> u8
-    ensures { result ≡ class_number last classes p }
+// Whether a class record is taken: its place, its parent, room for it.
+fn class_allowed(last: u8, classes: usize, p: u8) -> Result<(), Refusal>
+    ensures { result ≡ class_allowed last classes p }
 {
     if !follows(last, numbers::CLASS) {
-        return numbers::ORDER;
+        return Err(Refusal::Order);
     }
     if !parent_fits(classes, p) {
-        return numbers::RANGE;
+        return Err(Refusal::Range);
     }
     if numbers::MOST_CLASSES <= classes {
-        return numbers::TOO_MANY;
+        return Err(Refusal::TooMany);
     }
-    0
+    Ok(())
 }
 
-pub fn class_record(g: Progress, parents: &mut [u8; 33], p: u8) -> Step
-    ensures { (code : List ℕ) (L : LoadingOf) (A : Arrays) → g ≡ progress_of L → Stands code L (with_parents A parents.old)
-        → Leads code (class_record L p) result (with_parents A parents.new) }
+pub fn class_record(loaded: &mut Loaded, notes: &mut Notes, p: u8) -> Result<(), Refusal>
+    ensures { (code : List ℕ) (L : LoadingOf) → Stands code L loaded.old notes.old
+        → Leads code (class_record L p) result loaded.new notes.new }
 {
-    let number = class_number(g.last, g.classes, p);
-    if number != 0 {
-        return Step {
-            number,
-            progress: g,
-        };
-    }
-    let row = g.classes + 1;
-    parents[row] = p;
-    Step {
-        number: 0,
-        progress: Progress {
-            last: numbers::CLASS,
-            classes: row,
-            fields: g.fields,
-            statics: g.statics,
-            methods: g.methods,
-            entry: g.entry,
-        },
-    }
+    class_allowed(notes.last, loaded.counts.classes, p)?;
+    let row = loaded.counts.classes + 1;
+    loaded.parents[row] = p;
+    loaded.counts.classes = row;
+    notes.last = numbers::CLASS;
+    Ok(())
 }

@@ -5,12 +5,14 @@ ghost use Rattle.model.specs.Tables.{Ty};
 ghost use Rattle.model.specs.Loading.{Loading as LoadingOf, is_integer, all, entry_record};
 ghost use Rattle.loaded.specs.Holds.{byte_at};
 ghost use Rattle.loader.specs.Rules.{EntryRule};
-ghost use Rattle.loader.specs.Stands.{MethodCells, Sound, Arrays, with_rows, Stands, progress_of, Leads, Fine};
-ghost use Rattle.loader.specs.Numbers.{entry_number};
+ghost use Rattle.loader.specs.Stands.{MethodCells, Sound, Stands, Leads, Fine};
+ghost use Rattle.loader.specs.Allowed.{entry_allowed};
 
 use crate::numbers;
-use crate::order::{Progress, Step, follows};
+use crate::order::{Notes, follows};
 use crate::ranges::{is_row, wide};
+use crate::refusal::Refusal;
+use loaded::Loaded;
 use loaded::columns::{ARGUMENT_COUNT, METHOD, RETURN, SORT};
 
 // Whether the first n of the eight types from `base` on are int32 or int64.
@@ -59,44 +61,31 @@ fn entry_fits(methods: &[u8; 4128], n: usize, r: u8) -> bool
     integers(methods, base, methods[base + ARGUMENT_COUNT])
 }
 
-// The number that it is refused with, 0 where it is taken; `fits` is the rule on the entry.
-fn entry_number(last: u8, methods: usize, r: u8, fits: bool) -> u8
-    ensures { result ≡ entry_number last methods r fits }
+// Whether the entry record is taken; `fits` is the rule on the entry.
+fn entry_allowed(last: u8, methods: usize, r: u8, fits: bool) -> Result<(), Refusal>
+    ensures { result ≡ entry_allowed last methods r fits }
 {
     if !follows(last, numbers::ENTRY) {
-        return numbers::ORDER;
+        return Err(Refusal::Order);
     }
     if !is_row(methods, r) {
-        return numbers::RANGE;
+        return Err(Refusal::Range);
     }
     if !fits {
-        return numbers::RULE;
+        return Err(Refusal::Rule);
     }
-    0
+    Ok(())
 }
 
-pub fn entry_record(g: Progress, methods: &[u8; 4128], r: u8) -> Step
-    requires { Fine g }
-    ensures { (code : List ℕ) (L : LoadingOf) (A : Arrays) → g ≡ progress_of L → Stands code L (with_rows A methods.now)
-        → Leads code (entry_record L r) result (with_rows A methods.now) }
+pub fn entry_record(loaded: &mut Loaded, notes: &mut Notes, r: u8) -> Result<(), Refusal>
+    requires { Fine loaded.old.counts }
+    ensures { (code : List ℕ) (L : LoadingOf) → Stands code L loaded.old notes.old
+        → Leads code (entry_record L r) result loaded.new notes.new }
 {
-    let fits = entry_fits(methods, g.methods, r);
-    let number = entry_number(g.last, g.methods, r, fits);
-    if number != 0 {
-        return Step {
-            number,
-            progress: g,
-        };
-    }
-    Step {
-        number: 0,
-        progress: Progress {
-            last: numbers::ENTRY,
-            classes: g.classes,
-            fields: g.fields,
-            statics: g.statics,
-            methods: g.methods,
-            entry: r as usize,
-        },
-    }
+    let n = loaded.counts.methods;
+    let fits = entry_fits(&loaded.methods, n, r);
+    entry_allowed(notes.last, n, r, fits)?;
+    loaded.counts.entry = r as usize;
+    notes.last = numbers::ENTRY;
+    Ok(())
 }

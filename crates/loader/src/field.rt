@@ -3,14 +3,15 @@ ghost use Rattle.std.specs.Prelude.{◌≡◌, List, ℕ, ◌*◌, ◌≤◌, le
 ghost use Rattle.model.specs.Answer.{pick, those};
 ghost use Rattle.model.specs.Tables.{Field, is_static_field, layout};
 ghost use Rattle.model.specs.Loading.{Loading as LoadingOf, field_record};
-ghost use Rattle.loader.specs.Stands.{ClassRows, FieldRows, stored, field_cells, Arrays, with_parents, with_fields};
-ghost use Rattle.loader.specs.Stands.{Stands, progress_of, Leads, Fine, Small};
-ghost use Rattle.loader.specs.Numbers.{slot_room, field_number};
+ghost use Rattle.loader.specs.Stands.{ClassRows, FieldRows, stored, field_cells, Stands, Leads, Fine, Small};
+ghost use Rattle.loader.specs.Allowed.{slot_room, field_allowed};
 
 use crate::numbers;
-use crate::order::{Progress, Step, follows};
+use crate::order::{Notes, follows};
 use crate::ranges::{is_row, type_fits, wide};
+use crate::refusal::Refusal;
 use loaded::columns::{FIELD, FIELD_OWNER, SLOT, STATIC, TYPE};
+use loaded::{Counts, Loaded};
 
 // How many instance fields a class has with those inherited; `own` has each class's own.
 fn held(parents: &[u8; 33], own: &[u8; 33], c: usize) -> usize
@@ -31,15 +32,14 @@ fn held(parents: &[u8; 33], own: &[u8; 33], c: usize) -> usize
 }
 
 // The cell of the next field: among the static fields, or among its class's.
-fn next_slot(statics: usize, parents: &[u8; 33], own: &[u8; 33], o: u8, flag: u8) -> usize
-    ensures { (ps : List ℕ) (fs : List Field) (fields : List ℕ) → statics ≡ length (those is_static_field fs)
-        → ClassRows ps parents.now → FieldRows ps fs own.now fields
-        → result ≡ pick (eqb flag 1) (length (those is_static_field fs)) (length (layout ps fs o)) }
+fn next_slot(loaded: &Loaded, notes: &Notes, o: u8, flag: u8) -> usize
+    ensures { (code : List ℕ) (L : LoadingOf) → Stands code L loaded.now notes.now
+        → result ≡ pick (eqb flag 1) (length (those is_static_field L.fields)) (length (layout L.parents L.fields o)) }
 {
     if flag == 1 {
-        return statics;
+        return loaded.counts.statics;
     }
-    held(parents, own, o as usize)
+    held(&loaded.parents, &notes.own, o as usize)
 }
 
 // Room for one more field: fields, static ones, instance ones of the class with those inherited.
@@ -55,29 +55,37 @@ fn field_room(fields: usize, flag: u8, slot: usize) -> bool
     slot < numbers::MOST_INSTANCE
 }
 
-// The number that it is refused with, 0 where it is taken; `before` is the owner of the field before it.
-fn field_number(g: Progress, before: u8, o: u8, flag: u8, t: u8, slot: usize) -> u8
-    ensures { result ≡ field_number g.last before g.classes g.fields o flag t slot }
+// Whether a field record is taken; `before` is the owner of the field before it.
+fn field_allowed(
+    last: u8,
+    counts: Counts,
+    before: u8,
+    o: u8,
+    flag: u8,
+    t: u8,
+    slot: usize,
+) -> Result<(), Refusal>
+    ensures { result ≡ field_allowed last before counts.classes counts.fields o flag t slot }
 {
-    if !follows(g.last, numbers::FIELD) {
-        return numbers::ORDER;
+    if !follows(last, numbers::FIELD) {
+        return Err(Refusal::Order);
     }
     if o < before {
-        return numbers::ORDER;
+        return Err(Refusal::Order);
     }
-    if !is_row(g.classes, o) {
-        return numbers::RANGE;
+    if !is_row(counts.classes, o) {
+        return Err(Refusal::Range);
     }
     if 1 < flag {
-        return numbers::RANGE;
+        return Err(Refusal::Range);
     }
-    if !type_fits(g.classes, t) {
-        return numbers::RANGE;
+    if !type_fits(counts.classes, t) {
+        return Err(Refusal::Range);
     }
-    if !field_room(g.fields, flag, slot) {
-        return numbers::TOO_MANY;
+    if !field_room(counts.fields, flag, slot) {
+        return Err(Refusal::TooMany);
     }
-    0
+    Ok(())
 }
 
 // A field's row.
@@ -93,44 +101,27 @@ fn fill_field(fields: &mut [u8; 516], row: usize, o: u8, flag: u8, t: u8, slot: 
 }
 
 pub fn field_record(
-    g: Progress,
-    parents: &[u8; 33],
-    own: &mut [u8; 33],
-    fields: &mut [u8; 516],
+    loaded: &mut Loaded,
+    notes: &mut Notes,
     o: u8,
     flag: u8,
     t: u8,
-) -> Step
-    requires fine { Fine g }
-    requires small { Small own.old }
-    ensures { (code : List ℕ) (L : LoadingOf) (A : Arrays) → g ≡ progress_of L
-        → Stands code L (with_fields (with_parents A parents.now) own.old fields.old)
-        → Leads code (field_record L o flag t) result (with_fields (with_parents A parents.now) own.new fields.new) }
+) -> Result<(), Refusal>
+    requires fine { Fine loaded.old.counts }
+    requires small { Small notes.old.own }
+    ensures { (code : List ℕ) (L : LoadingOf) → Stands code L loaded.old notes.old
+        → Leads code (field_record L o flag t) result loaded.new notes.new }
 {
-    let n = g.fields;
-    let last = n * FIELD + FIELD_OWNER;
-    let slot = next_slot(g.statics, parents, own, o, flag);
-    let number = field_number(g, fields[last], o, flag, t, slot);
-    if number != 0 {
-        return Step {
-            number,
-            progress: g,
-        };
-    }
+    let n = loaded.counts.fields;
+    let before = loaded.fields[n * FIELD + FIELD_OWNER];
+    let slot = next_slot(loaded, notes, o, flag);
+    field_allowed(notes.last, loaded.counts, before, o, flag, t, slot)?;
     let row = n + 1;
-    fill_field(fields, row, o, flag, t, slot as u8);
+    fill_field(&mut loaded.fields, row, o, flag, t, slot as u8);
     let class = o as usize;
-    own[class] = own[class] + (1 - flag);
-    let statics = g.statics + flag as usize;
-    Step {
-        number: 0,
-        progress: Progress {
-            last: numbers::FIELD,
-            classes: g.classes,
-            fields: row,
-            statics: statics,
-            methods: g.methods,
-            entry: g.entry,
-        },
-    }
+    notes.own[class] = notes.own[class] + (1 - flag);
+    loaded.counts.fields = row;
+    loaded.counts.statics = loaded.counts.statics + flag as usize;
+    notes.last = numbers::FIELD;
+    Ok(())
 }

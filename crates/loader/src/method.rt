@@ -4,16 +4,18 @@ ghost use Rattle.model.specs.Loading.{Loading as LoadingOf, method_record};
 ghost use Rattle.loader.specs.Rules.{SortRule};
 ghost use Rattle.loader.specs.Body.{body_of};
 ghost use Rattle.loader.specs.Stands.{InitialiserRows, stored, method_cells, part_cells, marked, this_byte, one_if};
-ghost use Rattle.loader.specs.Stands.{Arrays, with_parents, with_methods, Stands, progress_of, Leads, Fine};
-ghost use Rattle.loader.specs.Numbers.{is_return, code_in, method_number};
+ghost use Rattle.loader.specs.Stands.{Stands, Leads, Fine};
+ghost use Rattle.loader.specs.Allowed.{is_return, code_in, method_allowed};
 
 use crate::numbers;
-use crate::order::{Progress, Step, follows};
+use crate::order::{Notes, follows};
 use crate::overriding::{override_fits, root_of};
 use crate::ranges::{is_row, type_fits, wide};
+use crate::refusal::Refusal;
 use loaded::columns::{
     ARGUMENT_COUNT, LENGTH, MAX_STACK, METHOD, OFFSET, OVERRIDDEN, OWNER, PART, RETURN, ROOT, SORT,
 };
+use loaded::{Counts, Loaded};
 
 // The type of `this` is argument 0's.
 const THIS: usize = 0;
@@ -97,39 +99,46 @@ fn sort_fits(b: Body, initialisers: &[u8; 33]) -> bool
     true
 }
 
-// The number that it is refused with, 0 where it is taken; `over` and `fits` are the rules between records.
-fn method_number(g: Progress, b: Body, code: usize, over: bool, fits: bool) -> u8
-    ensures { result ≡ method_number g.last g.classes g.methods b.owner b.sort b.returns b.stack
+// Whether a method record is taken; `over` and `fits` are the rules between records.
+fn method_allowed(
+    last: u8,
+    counts: Counts,
+    b: Body,
+    code: usize,
+    over: bool,
+    fits: bool,
+) -> Result<(), Refusal>
+    ensures { result ≡ method_allowed last counts.classes counts.methods b.owner b.sort b.returns b.stack
         (code_in code b.offset b.size) over fits }
 {
-    if !follows(g.last, numbers::METHOD) {
-        return numbers::ORDER;
+    if !follows(last, numbers::METHOD) {
+        return Err(Refusal::Order);
     }
-    if !is_row(g.classes, b.owner) {
-        return numbers::RANGE;
+    if !is_row(counts.classes, b.owner) {
+        return Err(Refusal::Range);
     }
     if numbers::INITIALISER < b.sort {
-        return numbers::RANGE;
+        return Err(Refusal::Range);
     }
-    if !return_fits(g.classes, b.returns) {
-        return numbers::RANGE;
+    if !return_fits(counts.classes, b.returns) {
+        return Err(Refusal::Range);
     }
     if numbers::MOST_STACK < b.stack {
-        return numbers::RANGE;
+        return Err(Refusal::Range);
     }
     if !code_fits(code, b.offset, b.size) {
-        return numbers::RANGE;
+        return Err(Refusal::Range);
     }
-    if numbers::MOST_METHODS <= g.methods {
-        return numbers::TOO_MANY;
+    if numbers::MOST_METHODS <= counts.methods {
+        return Err(Refusal::TooMany);
     }
     if !over {
-        return numbers::RULE;
+        return Err(Refusal::Rule);
     }
     if !fits {
-        return numbers::RULE;
+        return Err(Refusal::Rule);
     }
-    0
+    Ok(())
 }
 
 // 32 and the class's row for the sorts with `this`, else 0.
@@ -192,50 +201,30 @@ fn fill_part(parts: &mut [usize; 258], row: usize, offset: usize, size: usize)
 }
 
 pub fn method_record(
-    g: Progress,
+    loaded: &mut Loaded,
+    notes: &mut Notes,
     b: Body,
     place: usize,
     code: usize,
-    parents: &[u8; 33],
-    initialisers: &mut [u8; 33],
-    methods: &mut [u8; 4128],
-    parts: &mut [usize; 258],
-    places: &mut [usize; 129],
-) -> Step
-    requires { Fine g }
-    ensures { (buffer : List ℕ) (L : LoadingOf) (A : Arrays) → code ≡ length buffer → g ≡ progress_of L
-        → Stands buffer L (with_methods (with_parents A parents.now) initialisers.old methods.old
-        parts.old places.old)
+) -> Result<(), Refusal>
+    requires { Fine loaded.old.counts }
+    ensures { (buffer : List ℕ) (L : LoadingOf) → code ≡ length buffer → Stands buffer L loaded.old notes.old
         → Leads buffer (method_record buffer L place b.owner b.sort b.returns b.stack b.overridden b.offset b.size) result
-        (with_methods (with_parents A parents.now) initialisers.new methods.new parts.new places.new) }
+        loaded.new notes.new }
 {
-    let n = g.methods;
-    let over = override_fits(b, n, parents, methods);
-    let fits = sort_fits(b, initialisers);
-    let number = method_number(g, b, code, over, fits);
-    if number != 0 {
-        return Step {
-            number,
-            progress: g,
-        };
-    }
+    let n = loaded.counts.methods;
+    let over = override_fits(b, n, &loaded.parents, &loaded.methods);
+    let fits = sort_fits(b, &loaded.initialisers);
+    method_allowed(notes.last, loaded.counts, b, code, over, fits)?;
     let row = n + 1;
     let this = this_byte(b.sort, b.owner);
     let count = one_if(this);
-    let root = root_of(methods, row, b.overridden);
-    fill_row(methods, row, b, count, this, root);
-    fill_part(parts, row, b.offset, b.size);
-    places[row] = place;
-    mark_initialiser(initialisers, row, b.sort, b.owner);
-    Step {
-        number: 0,
-        progress: Progress {
-            last: numbers::METHOD,
-            classes: g.classes,
-            fields: g.fields,
-            statics: g.statics,
-            methods: row,
-            entry: g.entry,
-        },
-    }
+    let root = root_of(&loaded.methods, row, b.overridden);
+    fill_row(&mut loaded.methods, row, b, count, this, root);
+    fill_part(&mut loaded.parts, row, b.offset, b.size);
+    notes.places[row] = place;
+    mark_initialiser(&mut loaded.initialisers, row, b.sort, b.owner);
+    loaded.counts.methods = row;
+    notes.last = numbers::METHOD;
+    Ok(())
 }

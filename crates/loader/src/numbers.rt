@@ -1,4 +1,4 @@
-// Numbers of document 01: limits, kinds of records, sorts of methods, types, refusals.
+// Numbers of document 01: limits, kinds of records, sorts of methods, types.
 
 pub const MOST_TABLES: usize = 8192;
 
@@ -54,18 +54,3 @@ pub const INT64: u8 = 2;
 pub const F: u8 = 3;
 
 pub const OBJECT: u8 = 32;
-
-// Refusals.
-pub const TOO_LONG: u8 = 1;
-
-pub const BAD_RECORD: u8 = 2;
-
-pub const ORDER: u8 = 3;
-
-pub const RANGE: u8 = 4;
-
-pub const TOO_MANY: u8 = 5;
-
-pub const RULE: u8 = 6;
-
-pub const OVERRIDE: u8 = 7;

@@ -1,40 +1,30 @@
-// Order: what is loaded so far, how long a record is, and which record may follow which.
+// Order: what reading keeps, how long a record is, and which record may follow which.
 ghost use Rattle.std.specs.Prelude.{◌≡◌};
 ghost use Rattle.model.specs.Answer.{or_else};
-ghost use Rattle.model.specs.Loading.{nothing as nothing_of, body_bytes, follows as follows_of, within as within_of};
-ghost use Rattle.loader.specs.Stands.{progress_of};
+ghost use Rattle.model.specs.Loading.{body_bytes, follows as follows_of, within as within_of};
+ghost use Rattle.loader.specs.Stands.{no_notes};
 
 use crate::numbers;
 
-// What is loaded so far: the kind of the last record, how many rows there are, and the entry.
-#[derive(Clone, Copy)]
-pub struct Progress {
+// What reading keeps beside the module: the kind of the last record, 0 before the first; by class row how many instance fields are its own; by
+// method row the offset of its record.
+#[derive(Drop)]
+pub struct Notes {
     pub last: u8,
-    pub classes: usize,
-    pub fields: usize,
-    pub statics: usize,
-    pub methods: usize,
-    pub entry: usize,
-}
-
-// What a record did: its number, 0 where it was taken, and the progress after it.
-#[derive(Clone, Copy)]
-pub struct Step {
-    pub number: u8,
-    pub progress: Progress,
+    pub own: [u8; 33],
+    pub places: [usize; 129],
 }
 
 // Before the first record.
-pub fn nothing() -> Progress
-    ensures { result ≡ progress_of nothing_of }
-{
-    Progress {
-        last: 0,
-        classes: 0,
-        fields: 0,
-        statics: 0,
-        methods: 0,
-        entry: 0,
+impl Default for Notes {
+    fn default() -> Notes
+        ensures { result ≡ no_notes }
+    {
+        Notes {
+            last: 0,
+            own: [0u8; 33],
+            places: [0usize; 129],
+        }
     }
 }
 

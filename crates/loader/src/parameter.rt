@@ -1,61 +1,47 @@
 // A parameter record, of the method before it.
 ghost use Rattle.std.specs.Prelude.{◌≡◌, List, ℕ};
 ghost use Rattle.model.specs.Loading.{Loading as LoadingOf, param_record};
-ghost use Rattle.loader.specs.Stands.{Arrays, with_rows, Stands, progress_of, Leads, Fine};
-ghost use Rattle.loader.specs.Numbers.{param_number};
+ghost use Rattle.loader.specs.Stands.{Stands, Leads, Fine};
+ghost use Rattle.loader.specs.Allowed.{param_allowed};
 
 use crate::numbers;
-use crate::order::{Progress, Step, follows};
+use crate::order::{Notes, follows};
 use crate::ranges::{type_fits, wide};
+use crate::refusal::Refusal;
+use loaded::Loaded;
 use loaded::columns::{ARGUMENT_COUNT, METHOD, SORT};
 
-// The number that it is refused with, 0 where it is taken; `count` is how many arguments there are with `this`.
-fn param_number(last: u8, classes: usize, t: u8, count: u8, sort: u8) -> u8
-    ensures { result ≡ param_number last classes t count sort }
+// Whether a parameter record is taken; `count` is how many arguments there are with `this`.
+fn param_allowed(last: u8, classes: usize, t: u8, count: u8, sort: u8) -> Result<(), Refusal>
+    ensures { result ≡ param_allowed last classes t count sort }
 {
     if !follows(last, numbers::PARAMETER) {
-        return numbers::ORDER;
+        return Err(Refusal::Order);
     }
     if !type_fits(classes, t) {
-        return numbers::RANGE;
+        return Err(Refusal::Range);
     }
     if numbers::MOST_ARGUMENTS <= count {
-        return numbers::TOO_MANY;
+        return Err(Refusal::TooMany);
     }
     if sort == numbers::INITIALISER {
-        return numbers::RULE;
+        return Err(Refusal::Rule);
     }
-    0
+    Ok(())
 }
 
-pub fn param_record(g: Progress, methods: &mut [u8; 4128], t: u8) -> Step
-    requires { Fine g }
-    ensures { (code : List ℕ) (L : LoadingOf) (A : Arrays) → g ≡ progress_of L → Stands code L (with_rows A methods.old)
-        → Leads code (param_record L t) result (with_rows A methods.new) }
+pub fn param_record(loaded: &mut Loaded, notes: &mut Notes, t: u8) -> Result<(), Refusal>
+    requires { Fine loaded.old.counts }
+    ensures { (code : List ℕ) (L : LoadingOf) → Stands code L loaded.old notes.old
+        → Leads code (param_record L t) result loaded.new notes.new }
 {
-    let row = g.methods;
-    let base = row * METHOD;
-    let count = methods[base + ARGUMENT_COUNT];
-    let sort = methods[base + SORT];
-    let number = param_number(g.last, g.classes, t, count, sort);
-    if number != 0 {
-        return Step {
-            number,
-            progress: g,
-        };
-    }
+    let base = loaded.counts.methods * METHOD;
+    let count = loaded.methods[base + ARGUMENT_COUNT];
+    let sort = loaded.methods[base + SORT];
+    param_allowed(notes.last, loaded.counts.classes, t, count, sort)?;
     let column = wide(count);
-    methods[base + ARGUMENT_COUNT] = count + 1;
-    methods[base + column] = t;
-    Step {
-        number: 0,
-        progress: Progress {
-            last: numbers::PARAMETER,
-            classes: g.classes,
-            fields: g.fields,
-            statics: g.statics,
-            methods: g.methods,
-            entry: g.entry,
-        },
-    }
+    loaded.methods[base + ARGUMENT_COUNT] = count + 1;
+    loaded.methods[base + column] = t;
+    notes.last = numbers::PARAMETER;
+    Ok(())
 }

@@ -1,7 +1,7 @@
 // Ranges that records of several kinds share: rows and types.
 ghost use Rattle.std.specs.Prelude.{◌≡◌, ◌<◌};
 ghost use Rattle.model.specs.Loading.{within as within_of};
-ghost use Rattle.loader.specs.Numbers.{is_type};
+ghost use Rattle.loader.specs.Allowed.{is_type};
 
 use crate::numbers;
 

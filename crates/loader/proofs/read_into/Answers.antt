@@ -1,43 +1,31 @@
 -- `loader::read_into` meets its contract.
 use native.Mathlib.Omega.{arith}
-use mathlib.Core.Path.{refl, ap, ◌∙◌}
-use mathlib.Core.Bool.{Bool, ◌&&◌}
-use lib.ListN.{length, replicate}
-use Rattle.loaded.specs.declared.Loaded.{Loaded}
-use Rattle.loaded.specs.Holds.{nothing}
-use lib.Dec.{leb}
-use borrow.Author.Tests.{le-leb, lt-leb}
+use mathlib.Core.Path.{sym, ◌∙◌}
+use Rattle.std.proofs.lemmas.Result.{err_from_is_err_and}
 use Rattle.loader.proofs.Ends.{ends_long, ends_record, few_methods, low_methods, ends_open, ends_differing, ends_loaded}
 use Rattle.loader.proofs.read_into.Goals as goal
 
-pub returns-then-tables-gt-MOST_TABLES : goal.returns-then-tables-gt-MOST_TABLES
-returns-then-tables-gt-MOST_TABLES c = ends_long c.args.tables.now c.args.code.now (ap (λ (b : Bool). b && leb (length c.args.code.now) 32768) (lt-leb _ _ c.if-tables-gt-MOST_TABLES.true)) _ c.fault.ensures _
+pub returns-then-too_long : goal.returns-then-too_long
+returns-then-too_long c = ends_long c.args.tables.now c.args.code.now (sym c.if-too_long.true ∙ c.too_long.ensures) _ c.at.ensures _
 
-pub returns-then-code-gt-MOST_CODE : goal.returns-then-code-gt-MOST_CODE
-returns-then-code-gt-MOST_CODE c = ends_long c.args.tables.now c.args.code.now (ap (λ (b : Bool). b && leb (length c.args.code.now) 32768) (le-leb _ _ c.if-tables-gt-MOST_TABLES.false) ∙ lt-leb _ _ c.if-code-gt-MOST_CODE.true) _ c.fault-then-code-gt-MOST_CODE.ensures _
+pub returns-in_err-read_records : goal.returns-in_err-read_records
+returns-in_err-read_records c = let p = err_from_is_err_and c.from_residual.result c.from_residual.ensures.1 in
+    rw (p.1, p.2) (ends_record c.args.tables.now c.args.code.now (sym c.if-too_long.false ∙ c.too_long.ensures) _ _ c.in_err-read_records.ensures _)
 
-pub read_records-s-requires : goal.read_records-s-requires
-unfolding nothing
-read_records-s-requires c = λ i. let L : Loaded = c.requires i in
-    record { parents = L.parents; own = replicate 33 0; fields = L.fields; initialisers = L.initialisers; methods = L.methods; parts = L.parts; places = replicate 129 0 }
-
-pub returns-then-number-ne0 : goal.returns-then-number-ne0
-returns-then-number-ne0 c = ends_record c.args.tables.now c.args.code.now c.if-tables-gt-MOST_TABLES.false c.if-code-gt-MOST_CODE.false _ _ c.read_records-s.ensures c.if-number-ne0.true _ c.fault-then-number-ne0.ensures _
-
-pub returns-then-last-ne-ENTRY : goal.returns-then-last-ne-ENTRY
-returns-then-last-ne-ENTRY c = ends_open c.args.tables.now c.args.code.now c.if-tables-gt-MOST_TABLES.false c.if-code-gt-MOST_CODE.false _ _ c.read_records-s.ensures c.if-number-ne0.false c.if-last-ne-ENTRY.true _ c.fault-then-last-ne-ENTRY.ensures _
+pub returns-then-notes-ne-ENTRY : goal.returns-then-notes-ne-ENTRY
+returns-then-notes-ne-ENTRY c = ends_open c.args.tables.now c.args.code.now (sym c.if-too_long.false ∙ c.too_long.ensures) _ _ _ c.in_ok-read_records.ensures c.if-notes-ne-ENTRY.true _ c.at-then-notes-ne-ENTRY.ensures _
 
 pub first_differing-row-requires : goal.first_differing-row-requires
-first_differing-row-requires c = record { n_at_most = few_methods c.args.tables.now c.args.code.now c.if-tables-gt-MOST_TABLES.false c.if-code-gt-MOST_CODE.false _ _ c.read_records-s.ensures c.if-number-ne0.false; earlier = low_methods c.args.tables.now c.args.code.now c.if-tables-gt-MOST_TABLES.false c.if-code-gt-MOST_CODE.false _ _ c.read_records-s.ensures c.if-number-ne0.false }
+first_differing-row-requires c = record { n_at_most = few_methods c.args.tables.now c.args.code.now (sym c.if-too_long.false ∙ c.too_long.ensures) _ _ _ c.in_ok-read_records.ensures; earlier = low_methods c.args.tables.now c.args.code.now (sym c.if-too_long.false ∙ c.too_long.ensures) _ _ _ c.in_ok-read_records.ensures }
 
-pub offset_bounds-places-row : goal.offset_bounds-places-row
-offset_bounds-places-row c = omega (arith, c.first_differing-row.ensures.result_at_most, few_methods c.args.tables.now c.args.code.now c.if-tables-gt-MOST_TABLES.false c.if-code-gt-MOST_CODE.false _ _ c.read_records-s.ensures c.if-number-ne0.false)
+pub offset_bounds-notes-row : goal.offset_bounds-notes-row
+offset_bounds-notes-row c = omega (arith, c.first_differing-row.ensures.result_at_most, few_methods c.args.tables.now c.args.code.now (sym c.if-too_long.false ∙ c.too_long.ensures) _ _ _ c.in_ok-read_records.ensures)
 
-pub bounds-places-row : goal.bounds-places-row
-bounds-places-row c = omega (arith, c.first_differing-row.ensures.result_at_most, few_methods c.args.tables.now c.args.code.now c.if-tables-gt-MOST_TABLES.false c.if-code-gt-MOST_CODE.false _ _ c.read_records-s.ensures c.if-number-ne0.false)
+pub bounds-notes-row : goal.bounds-notes-row
+bounds-notes-row c = omega (arith, c.first_differing-row.ensures.result_at_most, few_methods c.args.tables.now c.args.code.now (sym c.if-too_long.false ∙ c.too_long.ensures) _ _ _ c.in_ok-read_records.ensures)
 
 pub returns-then-row-ne0 : goal.returns-then-row-ne0
-returns-then-row-ne0 c = ends_differing c.args.tables.now c.args.code.now c.if-tables-gt-MOST_TABLES.false c.if-code-gt-MOST_CODE.false _ _ c.read_records-s.ensures c.if-number-ne0.false c.if-last-ne-ENTRY.false _ c.first_differing-row.ensures.as_model c.if-row-ne0.true _ refl _ c.fault-then-row-ne0.ensures _
+returns-then-row-ne0 c = ends_differing c.args.tables.now c.args.code.now (sym c.if-too_long.false ∙ c.too_long.ensures) _ _ _ c.in_ok-read_records.ensures c.if-notes-ne-ENTRY.false _ c.first_differing-row.ensures.as_model c.if-row-ne0.true _ c.at-then-row-ne0.ensures _
 
 pub returns : goal.returns
-returns c = ends_loaded c.args.tables.now c.args.code.now c.if-tables-gt-MOST_TABLES.false c.if-code-gt-MOST_CODE.false _ _ c.read_records-s.ensures c.if-number-ne0.false c.if-last-ne-ENTRY.false _ c.first_differing-row.ensures.as_model c.if-row-ne0.false _ _ c.counts-loaded.ensures
+returns c = ends_loaded c.args.tables.now c.args.code.now (sym c.if-too_long.false ∙ c.too_long.ensures) _ _ _ c.in_ok-read_records.ensures c.if-notes-ne-ENTRY.false _ c.first_differing-row.ensures.as_model c.if-row-ne0.false _

@@ -1,5 +1,5 @@
 -- `loader::field::field_room` meets its contract.
-use Rattle.loader.specs.Numbers.{slot_room}
+use Rattle.loader.specs.Allowed.{slot_room}
 use Rattle.model.specs.Answer.{pick}
 use borrow.Author.Tests.{le-ltb, lt-ltb, eq-eqb, ne_eqb}
 use Rattle.loader.proofs.field.field_room.Goals as goal

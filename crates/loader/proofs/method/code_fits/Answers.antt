@@ -3,7 +3,7 @@ use Prim.Native.Nat.{◌+◌, ◌-◌}
 use native.Mathlib.Omega.{arith}
 use Rattle.loader.proofs.Ladder.{leb_same}
 use Rattle.model.specs.Loading.{within}
-use Rattle.loader.specs.Numbers.{code_in}
+use Rattle.loader.specs.Allowed.{code_in}
 use borrow.Author.Tests.{le-leb, lt-leb}
 use Rattle.loader.proofs.method.code_fits.Goals as goal
 

@@ -1,7 +1,7 @@
 -- `loader::method::return_fits` meets its contract.
 use Rattle.loader.proofs.Ladder.{none_map}
 use Rattle.model.specs.Loading.{return_at}
-use Rattle.loader.specs.Numbers.{is_return, is_type}
+use Rattle.loader.specs.Allowed.{is_return, is_type}
 use Rattle.model.specs.Answer.{pick, is_none, map_option}
 use borrow.Author.Tests.{eq-eqb, ne_eqb}
 use Rattle.loader.proofs.method.return_fits.Goals as goal

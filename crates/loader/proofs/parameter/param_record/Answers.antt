@@ -1,18 +1,19 @@
 -- `loader::parameter::param_record` meets its contract.
 use native.Mathlib.Omega.{arith}
-use mathlib.Core.Path.{sym, ◌∙◌}
+use Rattle.std.proofs.lemmas.Result.{err_from_is_err_and}
 use Rattle.loader.proofs.Open.{refuse, param_open}
 use Rattle.loader.proofs.Later.{param_goes, param_taken}
 use Rattle.loader.proofs.parameter.param_record.Goals as goal
 
-pub returns-then-number-ne0 : goal.returns-then-number-ne0
-returns-then-number-ne0 c = λ code L A e S. refuse _ _ _ _ _ c.param_number-number.ensures (param_goes code L A _ S _ _ e) c.if-number-ne0.true
+pub returns-in_err-param_allowed : goal.returns-in_err-param_allowed
+returns-in_err-param_allowed c = λ code L S. let p = err_from_is_err_and c.from_residual.result c.from_residual.ensures.1 in
+    rw (p.1, p.2) (refuse _ _ _ _ _ c.in_err-param_allowed.ensures (param_goes code L _ _ S _))
 
-pub overflow_add-methods : goal.overflow_add-methods
-overflow_add-methods c = omega (arith, param_open _ _ _ _ _ (sym c.param_number-number.ensures ∙ c.if-number-ne0.false))
+pub overflow_add-loaded : goal.overflow_add-loaded
+overflow_add-loaded c = omega (arith, param_open _ _ _ _ _ c.in_ok-param_allowed.ensures)
 
-pub bounds-methods-base-4 : goal.bounds-methods-base-4
-bounds-methods-base-4 c = omega (arith, param_open _ _ _ _ _ (sym c.param_number-number.ensures ∙ c.if-number-ne0.false), c.wide-column.ensures.0, c.requires.methods)
+pub bounds-loaded-base-4 : goal.bounds-loaded-base-4
+bounds-loaded-base-4 c = omega (arith, param_open _ _ _ _ _ c.in_ok-param_allowed.ensures, c.wide-column.ensures.0, c.requires.methods)
 
 pub returns : goal.returns
-returns c = λ code L A e S. param_taken code L A _ S _ _ e _ c.param_number-number.ensures c.if-number-ne0.false _ c.wide-column.ensures.0
+returns c = λ code L S. param_taken code L _ _ S _ c.in_ok-param_allowed.ensures _ c.wide-column.ensures.0

@@ -1,7 +1,7 @@
 -- `loader::ranges::type_fits` meets its contract.
 use Rattle.loader.proofs.Ladder.{class_type}
 use Rattle.model.specs.Tables.{type_at}
-use Rattle.loader.specs.Numbers.{is_type}
+use Rattle.loader.specs.Allowed.{is_type}
 use Rattle.model.specs.Answer.{pick, only_if, is_none}
 use borrow.Author.Tests.{le-ltb, lt-ltb, eq-eqb, ne_eqb}
 use Rattle.loader.proofs.ranges.type_fits.Goals as goal
