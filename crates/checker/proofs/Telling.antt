@@ -1,8 +1,8 @@
 -- The shape found before an instruction, told type by type; and the shapes found by row.
 use Prim.Native.Nat.{ℕ, zero, suc, ◌-◌, ◌%◌, ◌≤◌, ◌<◌}
 use mathlib.Core.Path.{◌≡◌, refl, sym, ap, ◌∙◌, subst}
-use mathlib.Core.Bool.{true}
-use mathlib.Core.Option.{Option, none, some}
+use mathlib.Core.Option.{Option as ModelOption, none, some}
+use Rattle.std.specs.Prelude.{Option, None, Some}
 use mathlib.Core.List.{List, [], ◌∷◌, ◌++◌, append_assoc}
 use native.Mathlib.Omega.{arith}
 use lib.ListN.{length, get_or, set, drop, replicate, length-set, get_or-eq_default}
@@ -63,7 +63,7 @@ module _ (P : Pool) (S : Shape) (n x : ℕ) (types : List ℕ) (t : Telling P S 
             ∙ t.same;
       }
 
-  pub telling_end : (d : ℕ) → n ≤ 0 → d ≡ length S → ◌≡◌ {A = Found} (record { starts = true; depth = d; types = types }) (told (some S))
+  pub telling_end : (d : ℕ) → n ≤ 0 → d ≡ length S → ◌≡◌ {A = Option Found} (Some (record { depth = d; types = types })) (told (some S))
   unfolding told bottom_up
   telling_end d h e =
       let z : n ≡ 0 = omega arith in
@@ -94,7 +94,7 @@ module _ (P : Pool) (n : ℕ) (F : Shapes) (found : List ℕ) (k : Kept P n F fo
     unfolding Stands
     none_told z = go (get_or F o none) (k.at o h)
       where
-        go : (R : Option Shape) → Stands P (get_or found o 0) R → R ≡ none
+        go : (R : ModelOption Shape) → Stands P (get_or found o 0) R → R ≡ none
         go none w = refl
         go (some S) w = let l : 0 < s = (kept_number S w).1 in absurd (omega arith)
 
@@ -102,14 +102,14 @@ module _ (P : Pool) (n : ℕ) (F : Shapes) (found : List ℕ) (k : Kept P n F fo
     unfolding Stands
     some_told z = go (get_or F o none) refl (k.at o h)
       where
-        go : (R : Option Shape) → get_or F o none ≡ R → Stands P (get_or found o 0) R → (S : Shape) × (get_or F o none ≡ some S) × Shows P S s
+        go : (R : ModelOption Shape) → get_or F o none ≡ R → Stands P (get_or found o 0) R → (S : Shape) × (get_or F o none ≡ some S) × Shows P S s
         go none q w = let v : get_or found o 0 ≡ 0 = w in absurd (z (omega arith))
         go (some S) q w = (S, q, subst (λ (x : ℕ). Shows P S x) (sym (kept_number S w).0) w)
 
 -- ---- By row
 
 -- each method has the shapes that its check found
-unfoldable Each : Module → Option Method → Option Shapes → Type 0
+unfoldable Each : Module → ModelOption Method → ModelOption Shapes → Type 0
 Each M none none = Unit {0}
 Each M none (some F) = ⊥
 Each M (some m) none = ⊥
@@ -135,26 +135,26 @@ each M found e (suc i) = rows M 1 M.methods found e i
 module _ (M : Module) (found : List Shapes) (e : check_module M ≡ ok found) (r : ℕ) where
   pub no_method_lem : row M.methods r ≡ none → (o : ℕ) → found_at found r o ≡ none
   unfolding found_at or_else Each
-  no_method_lem q o = go (row found r) (subst (λ (x : Option Method). Each M x (row found r)) q (each M found e r))
+  no_method_lem q o = go (row found r) (subst (λ (x : ModelOption Method). Each M x (row found r)) q (each M found e r))
     where
-      go : (R : Option Shapes) → Each M none R → get_or (or_else R []) o none ≡ none
+      go : (R : ModelOption Shapes) → Each M none R → get_or (or_else R []) o none ≡ none
       go none h = refl
       go (some F) h = absurd h
 
   pub method_found : (m : Method) (F : Shapes) → row M.methods r ≡ some m → check_method M m ≡ ok F → (o : ℕ) → found_at found r o ≡ get_or F o none
   unfolding found_at or_else Each
-  method_found m F q p o = go (row found r) (subst (λ (x : Option Method). Each M x (row found r)) q (each M found e r))
+  method_found m F q p o = go (row found r) (subst (λ (x : ModelOption Method). Each M x (row found r)) q (each M found e r))
     where
-      go : (R : Option Shapes) → Each M (some m) R → get_or (or_else R []) o none ≡ get_or F o none
+      go : (R : ModelOption Shapes) → Each M (some m) R → get_or (or_else R []) o none ≡ get_or F o none
       go none h = absurd h
       go (some G) h = ap (λ (H : Shapes). get_or H o none) (ok_eq (sym h ∙ p))
 
   -- the method's check passes
   pub method_passed : (m : Method) → row M.methods r ≡ some m → (F : Shapes) × (check_method M m ≡ ok F)
   unfolding Each
-  method_passed m q = go (row found r) (subst (λ (x : Option Method). Each M x (row found r)) q (each M found e r))
+  method_passed m q = go (row found r) (subst (λ (x : ModelOption Method). Each M x (row found r)) q (each M found e r))
     where
-      go : (R : Option Shapes) → Each M (some m) R → (F : Shapes) × (check_method M m ≡ ok F)
+      go : (R : ModelOption Shapes) → Each M (some m) R → (F : Shapes) × (check_method M m ≡ ok F)
       go none h = absurd h
       go (some G) h = (G, h)
 
@@ -170,5 +170,6 @@ unfolding row
 row_none l zero h = refl
 row_none l (suc r) h = absurd (omega arith)
 
-pub told_none : (R : Option Shape) (x : Found) → R ≡ none → x ≡ told none → x ≡ told R
-told_none R x e q = q ∙ ap told (sym e)
+pub told_none : (R : ModelOption Shape) → R ≡ none → None ≡ told R
+unfolding told
+told_none R e = rw e refl

@@ -18,7 +18,8 @@ use Rattle.shapes.specs.Effects.{Gives, Types}
 use Rattle.check_operands.specs.Held.{HeldClasses, HeldFields, HeldMethods, Held}
 use Rattle.passes.specs.Fused.{Tells, Ready, Passing}
 use Rattle.checker.specs.Bounded.{Bounded}
-use Rattle.checker.specs.Answers.{fault_of, no_fault, Answers}
+use Rattle.std.specs.Prelude.{Result, Ok, Err, ⊤}
+use Rattle.checker.specs.Answers.{fault_of, Answers}
 
 -- ---- What the arrays hold
 
@@ -130,11 +131,14 @@ module _ (M : Module) (code : List ℕ) (L : Loaded) (B : Bounded M) (H : Holds 
       ap (λ (x : Method). x.code) (sym (method_there M.methods r k e)) ∙ H.by_method.part r ∙ ap
       (λ (j : ℕ). part_of code (get_or L.parts j 0) (part_length L.parts r)) z
 
+  pub held_size : (r : ℕ) (k : Method) → row M.methods r ≡ some k → part_length L.parts r ≡ length k.code
+  held_size r k e = H.by_method.size r ∙ ap (λ (x : Method). length x.code) (method_there M.methods r k e)
+
 -- ---- Methods by row
 
 -- what is answered of the methods from a row on is answered of all
 pub record Checking (M : Module) (r : ℕ) : Type 0 where
-  pub rest : (a : Fault) → Answers (check_methods M r (drop (r - 1) M.methods)) a → Answers (check_module M) a
+  pub rest : (a : Result ⊤ Fault) → Answers (check_methods M r (drop (r - 1) M.methods)) a → Answers (check_module M) a
 
 pub checking_start : (M : Module) → Checking M 1
 unfolding check_module
@@ -160,7 +164,7 @@ module _ (M : Module) (r a b : ℕ) (w : Row M.methods r) (c : Checking M r) (t 
   from : Answer Refusal Shapes → Answer ModelFault (List Shapes)
   from A = blame (fault_in r) A >>= λ found. check_methods M (suc r) (drop r M.methods) >>= λ l. ok (found ∷ l)
 
-  here : (x : Fault) → Answers (from (check_method M w.method)) x → Answers (check_module M) x
+  here : (x : Result ⊤ Fault) → Answers (from (check_method M w.method)) x → Answers (check_module M) x
   unfolding check_methods ◌>>=◌ from
   here x h = c.rest x (subst (λ (l : List Method). Answers (check_methods M r l) x) (sym w.left) h)
 
@@ -168,21 +172,21 @@ module _ (M : Module) (r a b : ℕ) (w : Row M.methods r) (c : Checking M r) (t 
   unfolding Tells Answers ◌>>=◌ blame from
   checking_next h z = record { rest = λ x p. here x (by (check_method M w.method) t x p) }
     where
-      on : (A : Answer ModelFault (List Shapes)) (G : Shapes) (x : Fault) → Answers A x → Answers (A >>= λ l. ok (G ∷ l)) x
+      on : (A : Answer ModelFault (List Shapes)) (G : Shapes) (x : Result ⊤ Fault) → Answers A x → Answers (A >>= λ l. ok (G ∷ l)) x
       on (bad f) G x h = h
       on (ok l) G x h = h
 
-      by : (A : Answer Refusal Shapes) → Tells a b A → (x : Fault) → Answers (check_methods M (r + 1) (drop (r + 1 - 1) M.methods)) x → Answers (from A) x
+      by : (A : Answer Refusal Shapes) → Tells a b A → (x : Result ⊤ Fault) → Answers (check_methods M (r + 1) (drop (r + 1 - 1) M.methods)) x → Answers (from A) x
       by (bad f) t x p = let y : 10 < a = t.1 in absurd (omega arith)
       by (ok G) t x p =
           let y : r + 1 - 1 ≡ r = omega arith in
           on (check_methods M (suc r) (drop r M.methods)) G x (rw (y, add-one r) at p)
 
-  pub checking_fault : (a ≡ 0 → ⊥) → Answers (check_module M) (record { number = a; method = r; offset = b })
+  pub checking_fault : (a ≡ 0 → ⊥) → Answers (check_module M) (Err (record { number = a; method = r; offset = b }))
   unfolding Tells Answers ◌>>=◌ blame from fault_in fault_of refusal
-  checking_fault z = here (record { number = a; method = r; offset = b }) (by (check_method M w.method) t)
+  checking_fault z = here (Err (record { number = a; method = r; offset = b })) (by (check_method M w.method) t)
     where
-      by : (A : Answer Refusal Shapes) → Tells a b A → Answers (from A) (record { number = a; method = r; offset = b })
+      by : (A : Answer Refusal Shapes) → Tells a b A → Answers (from A) (Err (record { number = a; method = r; offset = b }))
       by (bad f) t = rw (← t.0) (refl, t.1, t.2)
       by (ok G) t = absurd (z t)
 
@@ -192,7 +196,7 @@ drop_past [] (suc r) h = refl
 drop_past (m ∷ ms) zero h = absurd (omega arith)
 drop_past (m ∷ ms) (suc r) h = drop_past ms r (omega arith)
 
-pub checking_end : (M : Module) (r : ℕ) (x : Fault) → Checking M r → 1 ≤ r → length M.methods < r → x ≡ no_fault → Answers (check_module M) x
+pub checking_end : (M : Module) (r : ℕ) (x : Result ⊤ Fault) → Checking M r → 1 ≤ r → length M.methods < r → x ≡ Ok tt → Answers (check_module M) x
 unfolding check_methods Answers
 checking_end M r x c h k e = c.rest x (subst (λ (l : List Method). Answers (check_methods M r l) x) (sym (drop_past M.methods (r - 1) (omega arith))) e)
 
@@ -227,3 +231,7 @@ ready_next p = record {
 pub failed : {X : Type 0} (A : Answer Refusal Shapes) (G : Shapes) (a b : ℕ) → Tells a b A → A ≡ ok G → (a ≡ 0 → ⊥) → X
 unfolding Tells
 failed A G a b t e n = absurd (n (rw e at t))
+
+pub passing_size : {A : Answer Refusal Shapes} {n k : ℕ} {found tops belows heights : List ℕ} → n ≡ k → Passing A n found tops belows heights
+    → Passing A k found tops belows heights
+passing_size e p = rw (← e) p

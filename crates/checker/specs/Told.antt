@@ -1,6 +1,6 @@
 -- The shape found before an instruction, as it is told.
-use Rattle.std.specs.Prelude.{ℕ, ◌-◌, true, false, List, [], ◌∷◌, ◌++◌, length, replicate}
-use Rattle.std.proofs.Math.Option.{Option, none, some}
+use Rattle.std.specs.Prelude.{ℕ, ◌-◌, List, [], ◌∷◌, ◌++◌, length, replicate, Option, None, Some}
+use Rattle.std.proofs.Math.Option.{Option as ModelOption, none, some}
 use Rattle.model.specs.Tables.{byte_of}
 use Rattle.model.specs.Check.{Shape}
 use Rattle.checker.specs.declared.tell.Found.{Found}
@@ -11,6 +11,6 @@ bottom_up [] = []
 bottom_up (t ∷ S) = bottom_up S ++ (byte_of t ∷ [])
 
 -- every byte past the last type is 0
-unfoldable pub told : Option Shape → Found
-told none = record { starts = false; depth = 0; types = replicate 32 0 }
-told (some S) = record { starts = true; depth = length S; types = bottom_up S ++ replicate (32 - length S) 0 }
+unfoldable pub told : ModelOption Shape → Option Found
+told none = None
+told (some S) = Some (record { depth = length S; types = bottom_up S ++ replicate (32 - length S) 0 })
