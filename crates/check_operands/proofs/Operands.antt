@@ -17,8 +17,8 @@ use Rattle.model.specs.State.{wrong_type, pop2, check_number}
 use Rattle.model.specs.Operators.{flag, Kind, k32, k64, k_f, reference, kind, kind_number, same, Meaning, meaning, number_of, integers_of, whole_of, shifted}
 use Rattle.model.specs.Operators.{relation_of, relates_ref, comparison, binary_of}
 use Rattle.model.specs.Check.{Shape, plain_effect, effect, call_effect, newobj_effect}
-use Rattle.code.specs.Operand.{row_in}
-use Rattle.code.specs.declared.operand.Row.TheVariants.{Wrong, Is}
+use Rattle.code.specs.Operand.{maybe}
+use Rattle.std.specs.Prelude.{Option as Found, None, Some, is_some}
 use Rattle.shapes.specs.declared.shape.After.{After}
 use Rattle.shapes.specs.Pool.{Pool, pool, Fine, Grown, Agrees, Takes}
 use Rattle.shapes.specs.Effects.{Types, Gives, called_effect, binary_effect, compare_effect}
@@ -27,7 +27,6 @@ use Rattle.shapes.specs.Kinds.{pairs, is_integer}
 use Rattle.loaded.specs.Holds.{method_cell, field_cell}
 use Rattle.check_operands.specs.Held.{Typed, row_among, HeldFields, HeldMethods}
 use Rattle.shapes.proofs.Replies.{stay}
-use Rattle.code.specs.declared.operand.Row.{Row as CodeRow}
 
 -- ---- Declared types
 
@@ -96,6 +95,14 @@ zero_none o r x y = by (eqb r 0) refl
     by : (b : Bool) → eqb r 0 ≡ b → eqb r 0 ≡ is_none o
     by true q = q ∙ sym (ap is_none (x (eqb-true r 0 q)))
     by false q = q ∙ sym (y (eqb-false r 0 q))
+
+-- whether it is missing, as the code tests it
+pub absent : {A : Type 0} (r : Found A) (b : Bool) (o : Option A) → is_some r ≡ not b → maybe r ≡ o → b ≡ is_none o
+unfolding is_none
+absent None true o e q = rw (← q) refl
+absent None false o e q = let z : ◌≡◌ {A = ℕ} 0 1 = cc in absurd (omega arith)
+absent (Some a) true o e q = let z : ◌≡◌ {A = ℕ} 0 1 = cc in absurd (omega arith)
+absent (Some a) false o e q = rw (← q) refl
 
 pub some_there : {A : Type 0} (o : Option A) (a : A) → o ≡ some a → is_none o ≡ false
 unfolding is_none
@@ -409,16 +416,16 @@ field_high P M m g t a x y = by (eqb g 31) refl
 
 -- ---- Rows, as the code finds them
 
-pub token_none : (n : ℕ) (R : CodeRow) (o : Option ℕ) → row_in R ≡ o → R ≡ Wrong → 0 ≡ row_among n o
-unfolding row_in row_among
+pub token_none : (n : ℕ) (R : Found ℕ) (o : Option ℕ) → maybe R ≡ o → R ≡ None → 0 ≡ row_among n o
+unfolding row_among
 token_none n R o e q = rw (← e, q) refl
 
-pub token_past : (n x : ℕ) (R : CodeRow) (o : Option ℕ) → row_in R ≡ o → R ≡ Is x → n < x → 0 ≡ row_among n o
-unfolding row_in row_among pick
+pub token_past : (n x : ℕ) (R : Found ℕ) (o : Option ℕ) → maybe R ≡ o → R ≡ Some x → n < x → 0 ≡ row_among n o
+unfolding row_among pick
 token_past n x R o e q h = rw (← e, q, lt-ltb n x h) refl
 
-pub token_here : (n x : ℕ) (R : CodeRow) (o : Option ℕ) → row_in R ≡ o → R ≡ Is x → x ≤ n → x ≡ row_among n o
-unfolding row_in row_among pick
+pub token_here : (n x : ℕ) (R : Found ℕ) (o : Option ℕ) → maybe R ≡ o → R ≡ Some x → x ≤ n → x ≡ row_among n o
+unfolding row_among pick
 token_here n x R o e q h = rw (← e, q, le-ltb n x h) refl
 
 pub flagged : (l : List ℕ) (r x v : ℕ) → r ≡ x → field_cell l r 1 ≡ v → r ≡ pick (eqb (field_cell l x 1) v) x 0

@@ -8,7 +8,7 @@ ghost use Rattle.shapes.specs.Effects.{Types};
 ghost use Rattle.check_operands.specs.Groups.{may_call, plain_by};
 ghost use Rattle.check_operands.specs.Held.{Typed, Own, row_among};
 
-use code::operand::{Row, row_of};
+use code::operand::row_of;
 use loaded::columns::{ARGUMENT_COUNT, FIELD, LOCAL_COUNT, LOCALS, METHOD, SORT, STATIC};
 use shapes::fit::wide;
 
@@ -103,8 +103,8 @@ fn token_row(kind: u8, token: u64, n: usize, most: usize) -> usize
     ensures as_model { (n ≤ most → result ≡ row_among n (row_of kind token)) }
 {
     match row_of(kind, token) {
-        Row::Wrong => 0,
-        Row::Is(r) => {
+        None => 0,
+        Some(r) => {
             if n < r {
                 return 0;
             }

@@ -1,5 +1,5 @@
 -- Targets by the tests that find them, over the width of the distance: twice h values.
-use mathlib.Core.Path.{◌≡◌, refl, ap}
+use mathlib.Core.Path.{◌≡◌, refl, sym, ap, ◌∙◌}
 use mathlib.Core.Option.{Option, none, some}
 use mathlib.Core.Bool.{Bool, true, false}
 use Prim.Native.Nat.{ℕ, ◌+◌, ◌-◌, ◌^◌, ◌≤◌, ◌<◌}
@@ -8,8 +8,10 @@ use lib.Dec.{ltb, leb}
 use borrow.Author.Tests.{ltb-true, ltb-false, lt-ltb, le-ltb, le-leb, lt-leb}
 use Rattle.model.specs.Answer.{pick, only_if, map_option}
 use Rattle.model.specs.Code.{target, and_then}
-use Rattle.code.specs.declared.operand.Target.TheVariants.{Before, At}
-use Rattle.code.specs.Operand.{held, target_of}
+use Rattle.std.specs.Prelude.{Option as Found, Some, None, SomeIff}
+use Rattle.std.specs.Option.{unwrap_or}
+use Rattle.std.specs.Bool.{then_some}
+use Rattle.code.specs.Operand.{held, maybe}
 
 pub holds : (t : ℕ) → t < 2 ^ 64 → held t ≡ t
 unfolding held pick
@@ -33,25 +35,44 @@ off : (h next d : ℕ) → h ≤ d → next + d < h + h → target (h + h) next 
 unfolding target pick only_if
 off h next d l k = simp (le-ltb (d + d) (h + h) (omega arith), lt-leb (h + h) (next + d) k)
 
-pub forward : (h next d t : ℕ) → d < h → t ≡ held (next + d) → target_of (At t) ≡ map_option held (target (h + h) next d)
-unfolding target_of map_option
+pub forward : (h next d t : ℕ) → d < h → t ≡ held (next + d) → maybe (Some t) ≡ map_option held (target (h + h) next d)
+unfolding map_option
 forward h next d t l e = rw (on h next d l, e)
 
-pub beyond : (h next d t : ℕ) → h + h ≤ d → t ≡ held (next + (d - (h + h))) → target_of (At t) ≡ map_option held (target (h + h) next d)
-unfolding target_of map_option
+pub beyond : (h next d t : ℕ) → h + h ≤ d → t ≡ held (next + (d - (h + h))) → maybe (Some t) ≡ map_option held (target (h + h) next d)
+unfolding map_option
 beyond h next d t l e =
     let k : next + (d - (h + h)) ≡ (next + d) - (h + h) = omega arith in
     rw (back h next d (omega arith) (omega arith), e, k)
 
-pub before : (h next d : ℕ) → h ≤ d → d < h + h → next < (h + h) - d → target_of Before ≡ map_option held (target (h + h) next d)
-unfolding target_of map_option
+pub before : (h next d : ℕ) → h ≤ d → d < h + h → next < (h + h) - d → maybe {A = ℕ} None ≡ map_option held (target (h + h) next d)
+unfolding map_option
 before h next d l k m = rw (off h next d l (omega arith))
 
-pub backward : (h next d : ℕ) → h ≤ d → d < h + h → (h + h) - d ≤ next → next < 2 ^ 64 → target_of (At (next - ((h + h) - d))) ≡ map_option held (target (h + h) next d)
-unfolding target_of map_option
+pub backward : (h next d : ℕ) → h ≤ d → d < h + h → (h + h) - d ≤ next → next < 2 ^ 64 → maybe (Some (next - ((h + h) - d))) ≡ map_option held (target (h + h) next d)
+unfolding map_option
 backward h next d l k m f =
     let z : (next + d) - (h + h) ≡ next - ((h + h) - d) = omega arith in
     rw (back h next d l (omega arith), z, holds (next - ((h + h) - d)) (omega arith))
+
+-- a distance that counts back, as far as the code reaches
+pub behind : (h next d : ℕ) (r : Found ℕ) → h ≤ d → d < h + h → next < 2 ^ 64 → SomeIff r ((h + h) - d ≤ next) (next - ((h + h) - d))
+    → maybe r ≡ map_option held (target (h + h) next d)
+behind h next d None l k m e = before h next d l k (le-lt e)
+  where
+    le-lt : ((h + h) - d ≤ next → ⊥) → next < (h + h) - d
+    le-lt e = omega arith
+behind h next d (Some t) l k m e = rw e.1 (backward h next d l k e.0 m)
+
+-- the sum, or the largest number
+pub bounded : (r : Found ℕ) (t : ℕ) → SomeIff r (t < 2 ^ 64) t → unwrap_or r (2 ^ 64 - 1) ≡ held t
+bounded None t e = sym (too_far t (omega (arith, e)))
+bounded (Some s) t e = e.1 ∙ sym (holds t e.0)
+
+pub kept : (b : Bool) (r : ℕ) → maybe (then_some b r) ≡ only_if b (some r)
+unfolding only_if
+kept true r = refl
+kept false r = refl
 
 outside : {A : Type 0} (f : ℕ → Option A) (len o : ℕ) → 2 ^ 64 ≤ o → len < 2 ^ 64
     → only_if (ltb (held o) len) (f (held o)) ≡ only_if (ltb o len) (f o)

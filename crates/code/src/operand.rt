@@ -2,71 +2,53 @@
 ghost use Rattle.std.specs.Prelude.{◌≡◌, ◌+◌, ◌≤◌};
 ghost use Rattle.model.specs.Answer.{map_option};
 ghost use Rattle.model.specs.Code.{target, row_of};
-ghost use Rattle.code.specs.Operand.{held, target_of, row_in};
+ghost use Rattle.code.specs.Operand.{held, values, maybe};
 
-// Where a branch goes: before the code, or to an offset.
+// A branch's distance is signed, and takes one byte or four.
 #[derive(Clone, Copy)]
-pub enum Target {
-    Before,
-    At(usize),
+pub enum Distance {
+    Byte,
+    Word,
 }
 
-// A token of another kind, or its row.
-#[derive(Clone, Copy)]
-pub enum Row {
-    Wrong,
-    Is(usize),
+impl Distance {
+    // The distances below count forward, those from it on back.
+    fn half(self) -> u64
+        ensures halves { result + result ≡ values self }
+        ensures result_at_most { result ≤ 0x80000000 }
+    {
+        match self {
+            Distance::Byte => 0x80,
+            Distance::Word => 0x80000000,
+        }
+    }
 }
 
 // So many bytes further.
 fn ahead(next: usize, d: usize) -> usize
     ensures { result ≡ held (next + d) }
 {
-    if 0xFFFFFFFFFFFFFFFF - next < d {
-        return 0xFFFFFFFFFFFFFFFF;
-    }
-    next + d
+    next.checked_add(d).unwrap_or(usize::MAX)
 }
 
-// A signed distance, of a width with twice `half` values, counts from the next instruction.
-fn counted(half: u64, next: usize, d: u64) -> Target
-    requires { half ≤ 0x80000000 }
-    ensures { target_of result ≡ map_option held (target (half + half) next d) }
+// The target of a branch, whose distance counts from the next instruction; none where that is before the code.
+pub fn target(width: Distance, next: usize, d: u64) -> Option<usize>
+    ensures { maybe result ≡ map_option held (target (values width) next d) }
 {
+    let half = width.half();
     if d < half {
-        return Target::At(ahead(next, d as usize));
+        return Some(ahead(next, d as usize));
     }
     let full = half + half;
     if full <= d {
-        return Target::At(ahead(next, (d - full) as usize));
+        return Some(ahead(next, (d - full) as usize));
     }
-    let back = (full - d) as usize;
-    if next < back {
-        return Target::Before;
-    }
-    Target::At(next - back)
+    next.checked_sub((full - d) as usize)
 }
 
-// The target at a distance of one byte.
-pub fn near_target(next: usize, d: u64) -> Target
-    ensures { target_of result ≡ map_option held (target 0x100 next d) }
+// The row of a token, if it is of a kind.
+pub fn row_of(kind: u8, token: u64) -> Option<usize>
+    ensures { maybe result ≡ row_of kind token }
 {
-    counted(0x80, next, d)
-}
-
-// The target at a distance of four bytes.
-pub fn far_target(next: usize, d: u64) -> Target
-    ensures { target_of result ≡ map_option held (target 0x100000000 next d) }
-{
-    counted(0x80000000, next, d)
-}
-
-// The row of a token of a kind.
-pub fn row_of(kind: u8, token: u64) -> Row
-    ensures { row_in result ≡ row_of kind token }
-{
-    if token / 0x1000000 == kind as u64 {
-        return Row::Is((token % 0x1000000) as usize);
-    }
-    Row::Wrong
+    (token / 0x1000000 == kind as u64).then_some((token % 0x1000000) as usize)
 }

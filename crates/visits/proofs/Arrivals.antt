@@ -2,6 +2,7 @@
 use Prim.Native.Nat.{ℕ, ◌%◌, ◌≤◌, ◌<◌}
 use mathlib.Core.Path.{◌≡◌, refl, sym, ap, ◌∙◌, subst}
 use mathlib.Core.Bool.{Bool, true, false}
+use Rattle.std.specs.Prelude.{Option as Found, None, Some}
 use mathlib.Core.Option.{Option, none, some}
 use mathlib.Core.List.{List, [], ◌∷◌}
 use native.Mathlib.Omega.{arith}
@@ -179,15 +180,15 @@ pub by_some : {A : Type 0} (P : Pool) (n r : ℕ) (l : List ℕ) (f : A → Answ
 unfolding WentBy
 by_some P n r l f o a e h = rw e h
 
-pub lost : (n r : ℕ) (o : Option ℕ) → Lands n r o → 1024 ≤ r → n ≤ 1024 → o ≡ none
+pub lost : (n : ℕ) (r : Found ℕ) (o : Option ℕ) → Lands n r o → r ≡ None → o ≡ none
 unfolding Lands
-lost n r none h k b = refl
-lost n r (some t) h k b = let x : r ≡ t = h.0 in let y : t < n = h.1 in absurd (omega arith)
+lost n r none h k = refl
+lost n r (some t) h k = let x : r ≡ Some t = h.0 in cc
 
-pub landed : (n r : ℕ) (o : Option ℕ) → Lands n r o → r < 1024 → (o ≡ some r) × (r < n)
+pub landed : (n : ℕ) (r : Found ℕ) (o : Option ℕ) (t : ℕ) → Lands n r o → r ≡ Some t → (o ≡ some t) × (t < n)
 unfolding Lands
-landed n r none h k = absurd (omega arith)
-landed n r (some t) h k = let x : r ≡ t = h.0 in (ap some (sym x), rw x h.1)
+landed n r none t h k = let x : r ≡ None = h in cc
+landed n r (some o) t h k = let x : r ≡ Some o = h.0 in let y : o ≡ t = cc in (ap some y, rw (← y) h.1)
 
 pub record Passed (P : Pool) (r : After) (A : Answer ℕ Shape) : Type 0 where
   pub shape : Shape

@@ -1,12 +1,14 @@
 -- Branches: their targets and effects, by group.
 use Prim.Native.Nat.{ℕ, zero, suc, ◌-◌, ◌^◌, ◌≤◌, ◌<◌}
-use mathlib.Core.Path.{◌≡◌, refl, sym, ◌∙◌}
+use mathlib.Core.Path.{◌≡◌, refl}
 use mathlib.Core.Bool.{Bool, true, false, not, ◌&&◌}
+use Rattle.std.specs.Prelude.{None}
+use Rattle.std.specs.Bool.{then_some}
 use mathlib.Core.Option.{Option, none, some}
 use mathlib.Core.List.{List, [], ◌∷◌}
 use native.Mathlib.Omega.{arith}
 use borrow.Author.Tests.{lt-ltb, le-ltb, ne_eqb, ltb-true, ltb-false}
-use lib.Dec.{ltb}
+use lib.Dec.{ltb, eqb}
 use lib.ListN.{get_or}
 use Rattle.model.specs.Answer.{ok, ◌>>=◌, guard, need, pick, only_if, map_option}
 use Rattle.model.specs.Code.{Ins, when, Relation, eq, lt, and_then, target}
@@ -93,37 +95,29 @@ held_past : (n o t : ℕ) → n ≤ 1024 → held o ≡ t → n ≤ t → n ≤ 
 held_past n o t b e h =
     held_cases (λ (k : ℕ). k ≡ t → n ≤ o) o (λ l q. omega arith) (λ l q. let z : n ≤ 2 ^ 64 = omega arith in omega arith) e
 
-pub land_none : (all : List (Site Ins)) (n : ℕ) (t : Option ℕ) → map_option held t ≡ none → Lands n 1024 (landing all n t)
+pub land_none : (all : List (Site Ins)) (n : ℕ) (t : Option ℕ) → none ≡ map_option held t → Lands n None (landing all n t)
 unfolding Lands landing and_then map_option
 land_none all n none e = refl
-land_none all n (some o) e = let z : ◌≡◌ {A = ℕ} 0 1 = cc in absurd (omega arith)
-
-pub land_past : (all : List (Site Ins)) (n : ℕ) (t : Option ℕ) (v : ℕ) → map_option held t ≡ some v → n ≤ v → n ≤ 1024 → Lands n 1024 (landing all n t)
-unfolding Lands landing and_then map_option only_if
-land_past all n none v e h b = refl
-land_past all n (some o) v e h b = rw (le-ltb o n (held_past n o v b (let z : held o ≡ v = cc in z) h)) refl
-
-pub land_too_far : (all : List (Site Ins)) (n : ℕ) (t : Option ℕ) (v : ℕ) → v < n → 1024 ≤ v → n ≤ 1024 → Lands n 1024 (landing all n t)
-land_too_far all n t v a c b = absurd (omega arith)
+land_none all n (some o) e = cc
 
 pub nonzero : (x : ℕ) → (x ≡ 0 → ⊥) → 0 < x
 nonzero zero h = absurd (h refl)
 nonzero (suc x) h = omega arith
 
-pub land_here : (all : List (Site Ins)) (l : List ℕ) (n : ℕ) (t : Option ℕ) (v : ℕ) → map_option held t ≡ some v → v < n → n ≤ 1024 → Starts all n l
-    → (get_or l v 0 ≡ 0 → ⊥) → Lands n v (landing all n t)
+pub land_past : (all : List (Site Ins)) (n : ℕ) (t : Option ℕ) (v : ℕ) → some v ≡ map_option held t → n ≤ v → n ≤ 1024 → Lands n None (landing all n t)
 unfolding Lands landing and_then map_option only_if
-land_here all l n none v e h b m q = let z : ◌≡◌ {A = ℕ} 0 1 = cc in absurd (omega arith)
-land_here all l n (some o) v e h b m q =
-    let y : held o ≡ v = cc in
-    let z : o ≡ v = held_inside n o v b y h in
-    rw (z, lt-ltb v n h, sym (m v h) ∙ lt-ltb 0 (get_or l v 0) (nonzero (get_or l v 0) q)) (refl, h)
+land_past all n none v e h b = refl
+land_past all n (some o) v e h b = rw (le-ltb o n (held_past n o v b (let z : held o ≡ v = cc in z) h)) refl
 
-pub land_inside : (all : List (Site Ins)) (l : List ℕ) (n : ℕ) (t : Option ℕ) (v : ℕ) → map_option held t ≡ some v → v < n → n ≤ 1024 → Starts all n l
-    → get_or l v 0 ≡ 0 → Lands n 1024 (landing all n t)
+pub land_inside : (all : List (Site Ins)) (l : List ℕ) (n : ℕ) (t : Option ℕ) (v : ℕ) → some v ≡ map_option held t → v < n → n ≤ 1024 → Starts all n l
+    → Lands n (then_some (not (eqb (get_or l v 0) 0)) v) (landing all n t)
 unfolding Lands landing and_then map_option only_if
-land_inside all l n none v e h b m q = refl
-land_inside all l n (some o) v e h b m q =
+land_inside all l n none v e h b m = let z : ◌≡◌ {A = ℕ} 0 1 = cc in absurd (omega arith)
+land_inside all l n (some o) v e h b m =
     let y : held o ≡ v = cc in
     let z : o ≡ v = held_inside n o v b y h in
-    rw (z, lt-ltb v n h, sym (m v h) ∙ le-ltb 0 (get_or l v 0) (omega arith)) refl
+    rw (z, lt-ltb v n h, ← m v h) (by (get_or l v 0))
+  where
+    by : (x : ℕ) → Lands n (then_some (not (eqb x 0)) v) (only_if (ltb 0 x) (some v))
+    by zero = refl
+    by (suc x) = rw (lt-ltb 0 (suc x) (omega arith), ne_eqb (suc x) 0 (λ e. omega arith)) (refl, h)

@@ -2,11 +2,14 @@
 use Prim.Native.Nat.{ℕ, ◌-◌, ◌≤◌, ◌<◌}
 use mathlib.Core.Path.{◌≡◌, refl, sym, ap, ◌∙◌, subst}
 use mathlib.Core.Bool.{Bool, true, false, not}
+use Rattle.std.specs.Prelude.{Option as Found, is_some}
+use Rattle.code.specs.Operand.{maybe}
+use Rattle.check_operands.proofs.Operands.{absent}
 use mathlib.Core.Option.{Option, none, some}
 use mathlib.Core.List.{List, []}
 use native.Mathlib.Omega.{arith}
-use borrow.Author.Tests.{lt-ltb, le-ltb, ne_eqb, le-leb, lt-leb, eqb-true, eqb-false}
-use lib.Dec.{ltb, leb, eqb}
+use borrow.Author.Tests.{lt-ltb, le-ltb, ne_eqb, eqb-true, eqb-false}
+use lib.Dec.{ltb, eqb}
 use lib.ListN.{length, set}
 use Rattle.model.specs.Answer.{Answer, bad, ok, ◌>>=◌, guard, pick, only_if, map_option, is_none, keep_if, at, row}
 use Rattle.model.specs.Tables.{Sort, Field, Method, Module, arguments}
@@ -133,16 +136,16 @@ branch_visit M m all F o i n r l Q g e h z w f =
     (landing all n (target_by i.op i.next i.operand))
     (λ t. visit_jump M m F o i.next n (jump_by g) t z) w)) f
 
-lands_none : (n r : ℕ) (o : Option ℕ) (j : Jump) → Lands n r o → n ≤ 1024 → leb 1024 r ≡ is_none (map_option (Act.jump j) o)
+lands_none : (n : ℕ) (r : Found ℕ) (o : Option ℕ) (j : Jump) (b : Bool) → Lands n r o → is_some r ≡ not b → b ≡ is_none (map_option (Act.jump j) o)
 unfolding Lands is_none map_option
-lands_none n r none j h b = le-leb 1024 r (omega arith)
-lands_none n r (some t) j h b = let x : r ≡ t = h.0 in let y : t < n = h.1 in lt-leb 1024 r (omega arith)
+lands_none n r none j b h e = absent r b none e (ap maybe h)
+lands_none n r (some t) j b h e = absent r b (some t) e (ap maybe h.0)
 
-pub branch_refused : (M : Module) (m : Method) (all : List (Site Ins)) (i : Insn) (n r g : ℕ) → g ≡ group_of i.op → 33 ≤ g → length m.code ≡ n → n ≤ 1024
-    → Lands n r (landing all n (target_by i.op i.next i.operand)) → leb 1024 r ≡ is_none (act_of M m all (ins_of i))
-branch_refused M m all i n r g e h z b w =
-    none_by_group M m all i g (leb 1024 r) e
-    (lands_none n r (landing all n (target_by i.op i.next i.operand)) (jump_by g) w b
+pub branch_refused : (M : Module) (m : Method) (all : List (Site Ins)) (i : Insn) (n : ℕ) (r : Found ℕ) (b : Bool) (g : ℕ) → g ≡ group_of i.op → 33 ≤ g
+    → length m.code ≡ n → Lands n r (landing all n (target_by i.op i.next i.operand)) → is_some r ≡ not b → b ≡ is_none (act_of M m all (ins_of i))
+branch_refused M m all i n r b g e h z w k =
+    none_by_group M m all i g b e
+    (lands_none n r (landing all n (target_by i.op i.next i.operand)) (jump_by g) b w k
     ∙ ap is_none (sym (ap (act_of M m all) (ins_jump g i.op i.operand i.next h) ∙ jump_acts M m all (jump_by g)
     (target_by i.op i.next i.operand) n z)))
 

@@ -1,5 +1,5 @@
 -- Shapes found, by offset, and what a visit leaves of them.
-use Rattle.std.specs.Prelude.{ℕ, ◌<◌, ◌≡◌, Bool, true, false, not, ◌&&◌, ◌||◌, List, [], ◌∷◌, length, get_or, ltb}
+use Rattle.std.specs.Prelude.{ℕ, ◌<◌, ◌≡◌, Bool, true, false, not, ◌&&◌, ◌||◌, List, [], ◌∷◌, length, get_or, ltb, Option as Found, None, Some}
 use Rattle.std.proofs.Math.Option.{Option, none, some}
 use Rattle.model.specs.Answer.{Answer, bad, ok, ◌>>=◌, guard, keep_if, only_if}
 use Rattle.model.specs.Code.{Jump, Ins, and_then}
@@ -40,10 +40,10 @@ WentBy P n r l f (some a) = Went P n r l (f a)
 unfoldable pub landing : List (Site Ins) → ℕ → Option ℕ → Option ℕ
 landing all n t = and_then t (λ o. only_if (ltb o n) (only_if (starts all o) (some o)))
 
--- 1024 where there is none
-unfoldable pub Lands : ℕ → ℕ → Option ℕ → Type 0
-Lands n r none = r ≡ 1024
-Lands n r (some o) = (r ≡ o) × (o < n)
+-- that target, inside the code
+unfoldable pub Lands : ℕ → Found ℕ → Option ℕ → Type 0
+Lands n r none = r ≡ None
+Lands n r (some o) = (r ≡ Some o) × (o < n)
 
 -- what follows an effect: arrivals at the next instruction, if there is one, and at targets, and the end
 unfoldable pub goes_on : ℕ → Shapes → Bool → ℕ → List ℕ → Shape → Answer ℕ Shapes

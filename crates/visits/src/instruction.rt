@@ -11,7 +11,7 @@ ghost use Rattle.check_operands.specs.Held.{Held};
 ghost use Rattle.visits.specs.Found.{Starts, Kept};
 ghost use Rattle.visits.specs.Visits.{act_of, Visits};
 
-use super::visit::{NO_TARGET, Visited, arrived, lands, shape_at, visit_branch};
+use super::visit::{Visited, arrived, lands, shape_at, visit_branch};
 use check_operands::group::{BR, CALL, CASTS, LDSFLD, group};
 use check_operands::operand::{
     INSTANCE, ONE_FOR_ALL, class_row, field_row, method_row, undeclared,
@@ -107,7 +107,7 @@ pub fn refused(
     let g = group(groups, i.op);
     let op = i.op as usize;
     if BR <= g {
-        return NO_TARGET <= lands(starts, size, op, i.next, i.operand);
+        return lands(starts, size, op, i.next, i.operand).is_none();
     }
     if g < CALL {
         return undeclared(methods, row, g, op, i.operand as usize);

@@ -1,11 +1,11 @@
 // One instruction of the check: its operand, its effect, where its shape arrives, and whether it can fall past the end.
-ghost use Rattle.std.specs.Prelude.{◌≡◌, true, List, [], ℕ, ◌≤◌, ◌<◌, length, get_or, set};
+ghost use Rattle.std.specs.Prelude.{◌≡◌, true, List, [], ℕ, ◌≤◌, ◌<◌, length, get_or, set, IfSome};
 ghost use Rattle.std.proofs.Math.Option.{none, some};
 ghost use Rattle.model.specs.Answer.{map_option};
 ghost use Rattle.model.specs.Tables.{Method, Module};
 ghost use Rattle.model.specs.Code.{Ins, operands};
 ghost use Rattle.model.specs.Check.{Shape, Shapes, Site, meet, effect, jump_effect, shape_at};
-ghost use Rattle.code.specs.Operand.{target_of, held};
+ghost use Rattle.code.specs.Operand.{held, maybe};
 ghost use Rattle.shapes.specs.Pool.{Pool, pool, Fine, Shows, Small, Effect, Takes};
 ghost use Rattle.check_operands.specs.Groups.{group_of, ins_by, jump_by, target_by};
 ghost use Rattle.visits.specs.Found.{Kept, Starts, Met, Went, WentOn, WentBy, Lands, landing, goes_on, jumped};
@@ -13,7 +13,7 @@ ghost use Rattle.visits.specs.Visits.{Visits};
 
 use check_operands::group::{BR, BR_EQUAL, BR_TEST, RET};
 use code::insn::Insn;
-use code::operand::{Target, far_target, near_target};
+use code::operand::{Distance, target};
 use shapes::effect::{test, when};
 use shapes::numbers::{ALIKE, FALLS_PAST, NUMBERS, OPERAND, OTHER_SHAPE};
 use shapes::shape::{After, EMPTY, SHAPES, fault, same};
@@ -21,8 +21,8 @@ use shapes::shape::{After, EMPTY, SHAPES, fault, same};
 // The first opcode with a distance of four bytes.
 const FIRST_FAR: usize = 0x38;
 
-// Where a branch has no target.
-pub const NO_TARGET: usize = 1024;
+// The longest code of a method.
+const MOST_CODE: usize = 1024;
 
 // An arrival: the first brings the shape, every later one must bring the same.
 pub fn meets(
@@ -49,36 +49,26 @@ pub fn meets(
 }
 
 // Where a branch goes, by the width of its distance.
-fn target_of(op: usize, next: usize, d: u64) -> Target
-    ensures { target_of result ≡ map_option held (target_by op next d) }
+fn target_of(op: usize, next: usize, d: u64) -> Option<usize>
+    ensures { maybe result ≡ map_option held (target_by op next d) }
 {
     if op < FIRST_FAR {
-        return near_target(next, d);
+        return target(Distance::Byte, next, d);
     }
-    far_target(next, d)
+    target(Distance::Word, next, d)
 }
 
-// The target of a branch, 1024 where it starts no instruction.
-pub fn lands(starts: &[u8; 1024], size: usize, op: usize, next: usize, d: u64) -> usize
-    ensures result_at_most { result ≤ 1024 }
+// The target of a branch, if an instruction starts there.
+pub fn lands(starts: &[u8; 1024], size: usize, op: usize, next: usize, d: u64) -> Option<usize>
+    ensures result_below { IfSome result (λ t. t < 1024) }
     ensures lands { ((all : List (Site Ins)) → size ≤ 1024 → Starts all size starts.now →
         Lands size result (landing all size (target_by op next d))) }
 {
-    match target_of(op, next, d) {
-        Target::Before => NO_TARGET,
-        Target::At(t) => {
-            if size <= t {
-                return NO_TARGET;
-            }
-            if NO_TARGET <= t {
-                return NO_TARGET;
-            }
-            if starts[t] != 0 {
-                return t;
-            }
-            NO_TARGET
-        }
+    let t = target_of(op, next, d)?;
+    if size.min(MOST_CODE) <= t {
+        return None;
     }
+    (starts[t] != 0).then_some(t)
 }
 
 // The effect of a branch: 33 br, 34 brtrue and brfalse, 35 beq and bne.un, else another comparison.
@@ -210,10 +200,9 @@ pub fn visit_branch(
         WentBy (pool tops.now belows.now heights.now made) size result
         found.new (jumped size F (jump_by g) next S) (landing all size (target_by op next d)) }
 {
-    let t = lands(starts, size, op, next, d);
-    if NO_TARGET <= t {
+    let Some(t) = lands(starts, size, op, next, d) else {
         return OPERAND;
-    }
+    };
     let a = branch(tops, belows, heights, made, s, g);
     if a.fault != 0 {
         return a.fault;

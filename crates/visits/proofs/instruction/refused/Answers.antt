@@ -14,8 +14,8 @@ returns-then-g-ge-BR c =
     let start = c in
     let the-group = c.group-g in
     let the-if1 = c.if-g-ge-BR in
-    λ M m all max ps gt H z st. branch_refused M m all start.args.i start.args.size _ _ (the-group.ensures gt) the-if1.true z start.requires.size_at_most
-    (c.lands.ensures.lands all start.requires.size_at_most st)
+    λ M m all max ps gt H z st. branch_refused M m all start.args.i start.args.size _ _ _ (the-group.ensures gt) the-if1.true z
+    (c.lands.ensures.lands all start.requires.size_at_most st) c.is_none.ensures
 
 pub returns-then-g-lt-CALL : goal.returns-then-g-lt-CALL
 returns-then-g-lt-CALL c =
