@@ -7,7 +7,6 @@ use mathlib.Core.List.{List, [], ◌∷◌, ◌++◌}
 use native.Mathlib.Omega.{arith}
 use native.Mathlib.Decide.{ℕ_discrete}
 use native.Mathlib.Nat.{mod-eq_of_lt}
-use native.Mathlib.Numerals.{add-one}
 use lib.ListN.{length, get_or, set, replicate, take, length-map}
 use lib.Seq.{take-length}
 use lib.Dec.{eqb, ltb, eqb-zero-suc, eqb-suc-zero, eqb-suc-suc}
@@ -196,14 +195,16 @@ module _ (ps : List ℕ) (fs : List Field) (fields : List ℕ) (T : FieldsTold p
       on : (there fs n h).one.is_static ≡ true
       on = flag_on _ (λ e. z (told.flagged ∙ e))
 
-  pub lay_cell : get_or fields ((n + 1) * 4 + 1) 0 ≡ 0 → length cells ≡ 264
-      → LaidTo ps fs (n + 1) (set cells (get_or fields ((n + 1) * 4 + 0) 0 % 33 * 8 + get_or fields ((n + 1) * 4 + 3) 0 % 64 % 8)
-      (get_or fields ((n + 1) * 4 + 2) 0)) statics
-  lay_cell z long = rw (add-one n) (cell_turn (rw (add-one n) at z) long)
+  -- the row, as a loop over the rows counts it
+  module _ {row next : ℕ} (e : row ≡ suc n) (f : next ≡ suc n) where
+    pub lay_cell : get_or fields (row * 4 + 1) 0 ≡ 0 → length cells ≡ 264
+        → LaidTo ps fs next (set cells (get_or fields (row * 4 + 0) 0 % 33 * 8 + get_or fields (row * 4 + 3) 0 % 64 % 8)
+        (get_or fields (row * 4 + 2) 0)) statics
+    lay_cell z long = rw (f, e) (cell_turn (rw e at z) long)
 
-  pub lay_static : (get_or fields ((n + 1) * 4 + 1) 0 ≡ 0 → ⊥) → length statics ≡ 64
-      → LaidTo ps fs (n + 1) cells (set statics (get_or fields ((n + 1) * 4 + 3) 0 % 64) (get_or fields ((n + 1) * 4 + 2) 0))
-  lay_static z long = rw (add-one n) (static_turn (rw (add-one n) at z) long)
+    pub lay_static : (get_or fields (row * 4 + 1) 0 ≡ 0 → ⊥) → length statics ≡ 64
+        → LaidTo ps fs next cells (set statics (get_or fields (row * 4 + 3) 0 % 64) (get_or fields (row * 4 + 2) 0))
+    lay_static z long = rw (f, e) (static_turn (rw e at z) long)
 
 -- ---- With those inherited
 

@@ -23,10 +23,8 @@ pub fn row_kinds(methods: &[u8; 4128], row: usize, variables: &mut [u8; 4128])
     requires variables_len { length variables.old ≡ 4128 }
     ensures { RowKinds row 24 methods.now variables.old variables.new }
 {
-    let mut i = 0;
-    while i < SORT {
-        let at = row * METHOD + i;
-        variables[at] = kind_or_none(methods[at]);
-        i += 1;
+    let first = row * METHOD;
+    for i in 0..SORT {
+        variables[first + i] = kind_or_none(methods[first + i]);
     }
 }

@@ -37,10 +37,8 @@ pub fn variables(counts: Counts, methods: &[u8; 4128], variables: &mut [u8; 4128
     ensures { counts.methods ≤ 128 → HoldsVariables counts.methods methods.now variables.new }
 {
     let last = counts.methods % METHOD_ROWS;
-    let mut row = 1;
-    while row <= last {
+    for row in 1..=last {
         row_kinds(methods, row, variables);
-        row += 1;
     }
 }
 
@@ -49,12 +47,9 @@ pub fn ancestors(counts: Counts, parents: &[u8; 33], sets: &mut [u64; 33])
     requires { sets.old ≡ replicate 33 0 }
     ensures { (ps : List ℕ) → Parents ps parents.now → counts.classes ≡ length ps → HoldsAncestors ps sets.new }
 {
-    let classes = counts.classes;
-    let mut c = 1;
-    while c < CLASS_ROWS {
-        let first = first_asked(classes, c);
+    for c in 1..CLASS_ROWS {
+        let first = first_asked(counts.classes, c);
         sets[c] = set_of(parents, c, first);
-        c += 1;
     }
 }
 

@@ -25,9 +25,7 @@ pub fn lay_fields(fields: &[u8; 516], count: usize, cells: &mut [u8; 264], stati
     ensures laid_to { ((ps : List ℕ) (fs : List Field) → FieldsTold ps fs fields.now → count ≡ length fs
         → LaidTo ps fs count cells.new statics.new) }
 {
-    let mut row = 0;
-    while row < count % FIELD_ROWS {
-        row += 1;
+    for row in 1..=count % FIELD_ROWS {
         let at = row * FIELD;
         let slot = (fields[at + SLOT] % STATICS) as usize;
         if fields[at + STATIC] == 0 {
@@ -45,12 +43,10 @@ pub fn own_methods(methods: &[u8; 4128], count: usize, chosen: &mut [u8; 4257])
     ensures chosen_len { length chosen.new ≡ 4257 }
     ensures own_from { ((ms : List Method) → MethodsTold ms methods.now → count ≡ length ms → OwnFrom ms 0 chosen.new) }
 {
-    let mut r = (count % METHOD_ROWS) as u8;
-    while 0 < r {
-        let at = (r as usize) * METHOD;
+    for r in (1..=count % METHOD_ROWS).rev() {
+        let at = r * METHOD;
         let class = (methods[at + OWNER] % CLASSES) as usize;
         let root = (methods[at + ROOT] % METHODS) as usize;
-        chosen[class * METHOD_ROWS + root] = r;
-        r -= 1;
+        chosen[class * METHOD_ROWS + root] = r as u8;
     }
 }

@@ -19,12 +19,8 @@ fn fill(table: &mut [u8], from: usize, to: usize, n: usize)
     requires { (from + n ≤ length table.old) × (to + n ≤ length table.old) }
     ensures { Filled from to n table.old table.new }
 {
-    let mut i = 0;
-    while i < n {
-        let own = to + i;
-        let other = from + i;
-        table[own] = or_other(table[own], table[other]);
-        i += 1;
+    for i in 0..n {
+        table[to + i] = or_other(table[to + i], table[from + i]);
     }
 }
 
@@ -33,10 +29,8 @@ pub fn inherit(parents: &[u8; 33], classes: usize, table: &mut [u8], width: usiz
     requires { (length table.old ≡ 33 * width) × (width < 256) × (n ≤ width) }
     ensures { Inherited parents.now width n (classes % 33 + 1) table.old table.new }
 {
-    let mut c = 1;
-    while c <= classes % CLASS_ROWS {
+    for c in 1..=classes % CLASS_ROWS {
         let parent = (parents[c] % CLASSES) as usize;
         fill(table, parent * width, c * width, n);
-        c += 1;
     }
 }

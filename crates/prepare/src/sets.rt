@@ -48,10 +48,8 @@ pub fn set_of(parents: &[u8; 33], c: usize, first: usize) -> u64
     ensures { (ps : List ℕ) → Parents ps parents.now → Unasked ps c first → (e : ℕ) → 0 < e → e ≤ 32 → Has result e (descends_of ps c e) }
 {
     let mut set: u64 = 0;
-    let mut d = first;
-    while d <= c {
+    for d in first..=c {
         set = asked(parents, c, d, set);
-        d += 1;
     }
     set
 }

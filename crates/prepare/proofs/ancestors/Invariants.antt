@@ -1,4 +1,4 @@
-use Prim.Native.Nat.{ℕ, ◌-◌, ◌≤◌, ◌<◌}
+use Prim.Native.Nat.{ℕ}
 use mathlib.Core.Path.{◌≡◌}
 use mathlib.Core.List.{List}
 use lib.ListN.{length}
@@ -7,7 +7,4 @@ use Rattle.prepare.specs.Sets.{Sets}
 use Rattle.prepare.proofs.ancestors.Given as goal
 
 abbrev pub invariant-loop-c : goal.invariant-loop-c
-invariant-loop-c l = (0 < l.c) × (l.c ≤ 33) × (length l.sets ≡ 33) × ((ps : List ℕ) → Parents ps l.parents → l.classes ≡ length ps → Sets ps l.c l.sets)
-
-abbrev pub decreases-loop-c : goal.decreases-loop-c
-decreases-loop-c l = 33 - l.c
+invariant-loop-c l = (ps : List ℕ) → Parents ps l.parents → l.counts.classes ≡ length ps → Sets ps l.c l.sets

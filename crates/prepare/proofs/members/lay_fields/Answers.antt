@@ -1,38 +1,39 @@
+use Prim.Native.Nat.{◌-◌}
 use mathlib.Core.Path.{◌≡◌}
 use native.Mathlib.Omega.{arith}
-use lib.ListN.{length-set}
-use Rattle.prepare.proofs.Turns.{zeros_long}
 use Rattle.prepare.proofs.Fields.{laid_first, lay_cell, lay_static}
 use Rattle.prepare.proofs.members.lay_fields.Goals as goal
+use Rattle.prepare.proofs.members.lay_fields.Goals.{then-fields-at-eq0, else-fields-at-eq0}
 
 pub loop-row-init : goal.loop-row-init
-loop-row-init c = (omega arith, zeros_long 264 _ c.requires.cells_is, zeros_long 64 _ c.requires.statics_is, λ ps fs T e. laid_first ps fs _ _ c.requires.cells_is c.requires.statics_is)
-
-pub loop-row-preserved-then-fields-at-eq0 : goal.loop-row-preserved-then-fields-at-eq0
-loop-row-preserved-then-fields-at-eq0 c = (
-  omega arith,
-  simp length-set c.loop-row.invariant.1,
-  c.loop-row.invariant.2,
-  λ ps fs T e. lay_cell ps fs _ T
-      c.loop-row.row (omega (arith, T.few)) _ _
-      (c.loop-row.invariant.3 ps fs T e) c.if-fields-at-eq0.true
-      c.loop-row.invariant.1,
-)
+loop-row-init c = (omega arith, λ ps fs T e. laid_first ps fs _ _ c.requires.cells_is c.requires.statics_is)
 
 pub loop-row-preserved : goal.loop-row-preserved
 loop-row-preserved c = (
   omega arith,
-  c.loop-row.invariant.1,
-  simp length-set
-      c.loop-row.invariant.2,
-  λ ps fs T e. lay_static ps fs _ T c.loop-row.row
-      (omega (arith, T.few)) _ _ (c.loop-row.invariant.3 ps fs T e) c.if-fields-at-eq0.false
-      c.loop-row.invariant.2,
+  λ ps fs T e.
+      elim c.if-fields-at-eq0.branch [
+        | then-fields-at-eq0 w ↦ rw (w.cells-is, w.statics-is)
+            (lay_cell ps fs _ T (c.loop-row.row - 1) (omega (arith, T.few)) _ _ (c.loop-row.invariant.1 ps fs T e) (omega arith) (omega arith)
+            w.if-fields-at-eq0.true (omega arith))
+        | else-fields-at-eq0 w ↦ rw (w.cells-is, w.statics-is)
+            (lay_static ps fs _ T (c.loop-row.row - 1) (omega (arith, T.few)) _ _ (c.loop-row.invariant.1 ps fs T e) (omega arith) (omega arith)
+            w.if-fields-at-eq0.false (omega arith))
+      ],
 )
 
-pub returns : goal.returns
-returns c = record {
-  cells_len = c.loop-row.invariant.1;
-  laid_to = λ ps fs T e. let z : c.loop-row.row ≡ c.args.count = omega (arith, T.few) in rw z at
-      (c.loop-row.invariant.3 ps fs T e);
-}
+-- where there is no field
+pub returns-clause-laid_to : goal.returns-clause-laid_to
+returns-clause-laid_to c = λ ps fs T e. let z : c.loop-row.row - 1 ≡ c.args.count = omega (arith, T.few) in rw z at (c.loop-row.invariant.1 ps fs T e)
+
+-- after the last field
+pub returns-after-fields-at-eq0-clause-laid_to : goal.returns-after-fields-at-eq0-clause-laid_to
+returns-after-fields-at-eq0-clause-laid_to c = λ ps fs T e.
+    elim c.if-fields-at-eq0.branch [
+      | then-fields-at-eq0 w ↦ rw (w.cells-is, w.statics-is)
+          (lay_cell ps fs _ T (c.loop-row.row - 1) (omega (arith, T.few)) _ _ (c.loop-row.invariant.1 ps fs T e) (omega arith) (omega (arith, T.few))
+          w.if-fields-at-eq0.true (omega arith))
+      | else-fields-at-eq0 w ↦ rw (w.cells-is, w.statics-is)
+          (lay_static ps fs _ T (c.loop-row.row - 1) (omega (arith, T.few)) _ _ (c.loop-row.invariant.1 ps fs T e) (omega arith) (omega (arith, T.few))
+          w.if-fields-at-eq0.false (omega arith))
+    ]
