@@ -8,6 +8,7 @@ use state::columns::NO_VARIABLE;
 use state::fit::kind_of;
 
 // The kind of a variable's type, where there is such a variable.
+#[tactic(auto, unfolding(state::specs::Order::kind_or_none, model::specs::Answer::pick))]
 fn kind_or_none(byte: u8) -> u8
     ensures { result ≡ kind_or_none byte }
 {

@@ -8,22 +8,54 @@ mod sets; // the set of a class's ancestors
 
 ghost use Rattle.std.specs.Prelude.{◌≡◌, ℕ, ◌≤◌, List, length, replicate};
 ghost use Rattle.model.specs.Tables.{Module};
-ghost use Rattle.loaded.specs.declared.Loaded.{Loaded};
+ghost use Rattle.loaded.specs.declared.Loaded.{Loaded as Lists};
 ghost use Rattle.loaded.specs.Holds.{Holds};
 ghost use Rattle.ancestor.specs.Parents.{Parents};
-ghost use Rattle.state.specs.Order.{Fine, HoldsChosen, HoldsVariables, HoldsAncestors, HoldsTypes};
+ghost use Rattle.state.specs.Order.{Fine, HoldsChosen, HoldsVariables, HoldsAncestors, HoldsMade, HoldsTypes};
 
 use crate::kinds::row_kinds;
 use crate::members::{CELLS, lay_fields, own_methods};
 use crate::rows::inherit;
 use crate::sets::{first_asked, set_of};
-use loaded::Counts;
 use loaded::columns::{CLASS_ROWS, METHOD_ROWS};
+use loaded::{Counts, Loaded};
+
+// What the steps read beside a loaded module.
+#[derive(Drop)]
+pub struct Prepared {
+    // 32 for each method row: the kind of each variable
+    pub variables: [u8; 4128],
+    // by class row: the set of its ancestors
+    pub ancestors: [u64; 33],
+    // 129 for each class row: the method row that callvirt takes, by root
+    pub chosen: [u8; 4257],
+}
+
+// The tables of a loaded module.
+pub fn prepare(loaded: &Loaded) -> Prepared
+    ensures { (M : Module) (code : List ℕ) → Fine M → Holds M code loaded.now
+        → HoldsMade M loaded.now result.variables result.ancestors result.chosen }
+{
+    let mut made = Prepared {
+        variables: [0; 4128],
+        ancestors: [0; 33],
+        chosen: [0; 4257],
+    };
+    variables(loaded.counts, &loaded.methods, &mut made.variables);
+    ancestors(loaded.counts, &loaded.parents, &mut made.ancestors);
+    choices(
+        loaded.counts,
+        &loaded.parents,
+        &loaded.methods,
+        &mut made.chosen,
+    );
+    made
+}
 
 // For each class the method of each root: its own, else what its parent has.
 pub fn choices(counts: Counts, parents: &[u8; 33], methods: &[u8; 4128], chosen: &mut [u8; 4257])
     requires { chosen.old ≡ replicate 4257 0 }
-    ensures { (M : Module) (code : List ℕ) (L : Loaded) → Fine M → Holds M code L → L.counts ≡ counts → L.parents ≡ parents.now
+    ensures { (M : Module) (code : List ℕ) (L : Lists) → Fine M → Holds M code L → L.counts ≡ counts → L.parents ≡ parents.now
         → L.methods ≡ methods.now → HoldsChosen M chosen.new }
 {
     let rows = counts.methods % METHOD_ROWS;
@@ -63,7 +95,7 @@ pub fn types(
 )
     requires cell_types_is { cell_types.old ≡ replicate 264 0 }
     requires static_types_is { static_types.old ≡ replicate 64 0 }
-    ensures { (M : Module) (code : List ℕ) (L : Loaded) → Fine M → Holds M code L → L.counts ≡ counts → L.parents ≡ parents.now
+    ensures { (M : Module) (code : List ℕ) (L : Lists) → Fine M → Holds M code L → L.counts ≡ counts → L.parents ≡ parents.now
         → L.fields ≡ fields.now → HoldsTypes M cell_types.new static_types.new }
 {
     lay_fields(fields, counts.fields, cell_types, static_types);

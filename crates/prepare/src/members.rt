@@ -3,19 +3,16 @@ ghost use Rattle.std.specs.Prelude.{◌≡◌, ℕ, List, length, replicate};
 ghost use Rattle.model.specs.Tables.{Field, Method};
 ghost use Rattle.prepare.specs.Told.{FieldsTold, LaidTo, MethodsTold, OwnFrom};
 
-use crate::rows::CLASSES;
 use loaded::columns::{
-    FIELD, FIELD_OWNER, FIELD_ROWS, METHOD, METHOD_ROWS, OWNER, ROOT, SLOT, STATIC, TYPE,
+    CLASS_ROWS, FIELD, FIELD_OWNER, FIELD_ROWS, METHOD, METHOD_ROWS, OWNER, ROOT, SLOT, STATIC,
+    TYPE,
 };
 
 // How many cells a class has at most.
 pub const CELLS: usize = 8;
 
 // How many static cells there are at most.
-const STATICS: u8 = 64;
-
-// METHOD_ROWS as a byte.
-const METHODS: u8 = 129;
+const STATICS: usize = 64;
 
 // The type of each field is stored at its slot: a static field's among the static cells, any other's in the row of its class.
 pub fn lay_fields(fields: &[u8; 516], count: usize, cells: &mut [u8; 264], statics: &mut [u8; 64])
@@ -27,9 +24,9 @@ pub fn lay_fields(fields: &[u8; 516], count: usize, cells: &mut [u8; 264], stati
 {
     for row in 1..=count % FIELD_ROWS {
         let at = row * FIELD;
-        let slot = (fields[at + SLOT] % STATICS) as usize;
+        let slot = fields[at + SLOT] as usize % STATICS;
         if fields[at + STATIC] == 0 {
-            let class = (fields[at + FIELD_OWNER] % CLASSES) as usize;
+            let class = fields[at + FIELD_OWNER] as usize % CLASS_ROWS;
             cells[class * CELLS + slot % CELLS] = fields[at + TYPE];
         } else {
             statics[slot] = fields[at + TYPE];
@@ -45,8 +42,8 @@ pub fn own_methods(methods: &[u8; 4128], count: usize, chosen: &mut [u8; 4257])
 {
     for r in (1..=count % METHOD_ROWS).rev() {
         let at = r * METHOD;
-        let class = (methods[at + OWNER] % CLASSES) as usize;
-        let root = (methods[at + ROOT] % METHODS) as usize;
+        let class = methods[at + OWNER] as usize % CLASS_ROWS;
+        let root = methods[at + ROOT] as usize % METHOD_ROWS;
         chosen[class * METHOD_ROWS + root] = r as u8;
     }
 }

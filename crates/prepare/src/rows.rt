@@ -4,10 +4,8 @@ ghost use Rattle.prepare.specs.Rows.{or_other, Filled, Inherited};
 
 use loaded::columns::CLASS_ROWS;
 
-// CLASS_ROWS as a byte.
-pub const CLASSES: u8 = 33;
-
 // A number, or another where it is 0.
+#[tactic(auto, unfolding(crate::specs::Rows::or_other, model::specs::Answer::pick))]
 fn or_other(a: u8, b: u8) -> u8
     ensures { result ≡ or_other a b }
 {
@@ -30,7 +28,7 @@ pub fn inherit(parents: &[u8; 33], classes: usize, table: &mut [u8], width: usiz
     ensures { Inherited parents.now width n (classes % 33 + 1) table.old table.new }
 {
     for c in 1..=classes % CLASS_ROWS {
-        let parent = (parents[c] % CLASSES) as usize;
+        let parent = parents[c] as usize % CLASS_ROWS;
         fill(table, parent * width, c * width, n);
     }
 }
