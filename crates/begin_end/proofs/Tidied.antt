@@ -254,7 +254,7 @@ pub object_left : (types : List ℕ) (class place : ℕ) (heap ys : List ℕ) �
     → length ys ≡ length (take (place * 8 + 8 - place * 8) (drop (place * 8) heap))
     → Each tidy_byte (take (class * 8 + 8 - class * 8) (drop (class * 8) types)) (take (place * 8 + 8 - place * 8) (drop (place * 8) heap)) ys
     → Changed (λ j. tidy_byte (get_or types (class * 8 + (j - place * 8)) 0) (get_or heap j 0)) (place * 8) (place * 8 + 8) heap
-        (put_mid (place * 8) (place * 8 + 8 - place * 8) heap ys)
+    (put_mid (place * 8) (place * 8 + 8 - place * 8) heap ys)
 object_left types class place heap ys fit long each =
     rewritten tidy_byte _ types (class * 8) _ (place * 8) (place * 8 + 8) heap ys (omega arith) fit (omega arith) long each
     λ i h. let x : place * 8 + i - place * 8 ≡ i = omega arith in rw x

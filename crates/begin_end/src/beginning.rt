@@ -52,5 +52,13 @@ pub fn first(loaded: &Loaded, state: &mut State) -> Moved
         floor: STACK,
         limit: STACK,
     };
-    enter(y, 0, STACK, 0, &mut state.cells, &loaded.methods, initialiser)
+    enter(
+        y,
+        0,
+        STACK,
+        0,
+        &mut state.cells,
+        &loaded.methods,
+        initialiser,
+    )
 }

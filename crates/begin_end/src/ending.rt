@@ -107,7 +107,11 @@ fn objects(types: &[u8; 264], classes: &[u8; 256], heap: &mut [u64; 2048])
         if *class != 0 {
             let fields = usize::from(*class) * OBJECT;
             let at = place * OBJECT;
-            rewrite(typed, &types[fields..fields + OBJECT], &mut heap[at..at + OBJECT]);
+            rewrite(
+                typed,
+                &types[fields..fields + OBJECT],
+                &mut heap[at..at + OBJECT],
+            );
         }
     }
 }

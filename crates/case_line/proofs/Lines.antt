@@ -16,8 +16,8 @@ use Rattle.model.specs.Replay.{word_load, word_check, word_run, bar, numbers, lo
 use Rattle.loaded.specs.Holds.{Holds}
 use Rattle.loaded.specs.declared.Fault.{Fault}
 use Rattle.loaded.specs.declared.Loaded.{Loaded}
-use Rattle.loader.specs.Answers.{fault_of, no_fault}
-use Rattle.loader.specs.Answers as Loads
+use Rattle.std.specs.Prelude.{Result, Ok, Err, ⊤}
+use Rattle.loitsupar.specs.Public.{numbered}
 use Rattle.state.specs.Order.{Fine, HoldsTypes}
 use Rattle.state.specs.Layout.{lay_out}
 use Rattle.faithful.proofs.Constants.{Bytes}
@@ -68,34 +68,35 @@ bar_is = refl
 module _ (tables code arguments : List ℕ) (budget : ℕ) where
   -- a refusal of loading
   refused_line : (f : Fault) → Answered.Refused tables code f → load_part f ++ refused_rest f ≡ replay tables code arguments budget ++ line_feed
-  unfolding replay load_part check_part run_part refused_rest load_text check_text run_text check run blame ◌>>=◌ fault_in fault_of text_of
+  unfolding replay load_part check_part run_part refused_rest load_text check_text run_text check run blame ◌>>=◌ fault_in text_of
   refused_line f r = rw (r.same, r.refuses, bar_is) (simp append_assoc)
 
   -- a module that is loaded
-  loaded_line : (M : Module) → load tables code ≡ ok M → (f : Fault) → f ≡ no_fault
-      → load_part f ++ loaded_rest M arguments budget ≡ replay tables code arguments budget ++ line_feed
-  unfolding replay load_part loaded_rest load_text check run blame ◌>>=◌ no_fault
-  loaded_line M l f e = rw (e, l, bar_is) (simp append_assoc)
+  loaded_line : (M : Module) → load tables code ≡ ok M
+      → load_part (record { number = 0; method = 0; offset = 0 }) ++ loaded_rest M arguments budget ≡ replay tables code arguments budget ++ line_feed
+  unfolding replay load_part loaded_rest load_text check run blame ◌>>=◌
+  loaded_line M l = rw (l, bar_is) (simp append_assoc)
 
 -- ---- The rest of it, after loading
 
-check_told : (A : Answer ModelFault (List Shapes)) (c : Fault) → Checks.Answers A c → check_text A ≡ numbers (c.number ∷ c.method ∷ c.offset ∷ [])
-unfolding check_text Checks.Answers Checks.fault_of Checks.no_fault
+check_told : (A : Answer ModelFault (List Shapes)) (c : Result ⊤ Fault) → Checks.Answers A c
+    → check_text A ≡ numbers ((numbered c).number ∷ (numbered c).method ∷ (numbered c).offset ∷ [])
+unfolding check_text numbered Checks.Answers Checks.fault_of
 check_told (bad f) c h = rw h.0
 check_told (ok l) c h = rw h
 
-module _ (M : Module) (arguments : List ℕ) (budget : ℕ) (c : Fault) (checks : Checks.Answers (check_module M) c) (e : Ended) where
+module _ (M : Module) (arguments : List ℕ) (budget : ℕ) (c : Result ⊤ Fault) (checks : Checks.Answers (check_module M) c) (e : Ended) where
   refused_rest_lem : Refused M arguments budget e
-      → (check_part c ++ run_part e.end e.steps (value_of e.value)) ++ (dash ++ line_feed) ≡ loaded_rest M arguments budget
+      → (check_part (numbered c) ++ run_part e.end e.steps (value_of e.value)) ++ (dash ++ line_feed) ≡ loaded_rest M arguments budget
   unfolding loaded_rest check_part run_part run_text refused_by text_of
   refused_rest_lem r = rw (check_told (check_module M) c checks, r.refuses_run, r.exact, bar_is) (simp append_assoc)
 
   ended_rest : (r : Ran M arguments budget e)
-      → ((check_part c ++ run_part e.end e.steps (value_of e.value)) ++ state_text M r.end_is.state) ++ line_feed ≡ loaded_rest M arguments budget
+      → ((check_part (numbered c) ++ run_part e.end e.steps (value_of e.value)) ++ state_text M r.end_is.state) ++ line_feed ≡ loaded_rest M arguments budget
   unfolding loaded_rest check_part run_part run_text told
   ended_rest r = rw (check_told (check_module M) c checks, r.runs, r.tells.value, r.tells.exact, bar_is) (simp append_assoc)
 
-  module _ (runs : Answers (run_module M arguments budget) e) {s s1 s2 s3 : List ℕ} {at at1 at2 at3 : ℕ} (checked : Appended s at (check_part c) s1 at1)
+  module _ (runs : Answers (run_module M arguments budget) e) {s s1 s2 s3 : List ℕ} {at at1 at2 at3 : ℕ} (checked : Appended s at (check_part (numbered c)) s1 at1)
       (ran : Appended s1 at1 (run_part e.end e.steps (value_of e.value)) s2 at2) where
     -- the run is refused: no state
     pub refused_run : refuses e.end.number ≡ true → Appended s2 at2 (dash ++ line_feed) s3 at3 → Appended s at (loaded_rest M arguments budget) s3 at3
@@ -115,19 +116,19 @@ module _ (M : Module) (arguments : List ℕ) (budget : ℕ) (c : Fault) (checks 
 
 -- ---- The whole line from its two halves
 
-module _ (tables code arguments : List ℕ) (budget : ℕ) (f : Fault) (none : Type 0) (L : Loaded)
-    (says : Loads.Answers (load tables code) f none (λ M. Holds M code L))
-    {s s1 s2 : List ℕ} {at1 at2 : ℕ} (first : Appended s 0 (load_part f) s1 at1) where
-  pub refused_load : (f.number ≡ 0 → ⊥) → Appended s1 at1 (refused_rest f) s2 at2 → Appended s 0 (replay tables code arguments budget ++ line_feed) s2 at2
-  refused_load n a = same (refused_line tables code arguments budget f (refused f none L says n)) (then first a)
+module _ (tables code arguments : List ℕ) (budget : ℕ) (r : Result Loaded Fault)
+    {s s1 s2 : List ℕ} {at1 at2 : ℕ} (first : Appended s 0 (load_part (numbered r)) s1 at1) where
+  pub refused_load : (f : Fault) → r ≡ Err f → Answered.Says tables code (Err f) → Appended s1 at1 (refused_rest f) s2 at2
+      → Appended s 0 (replay tables code arguments budget ++ line_feed) s2 at2
+  unfolding numbered
+  refused_load f e says a = same (refused_line tables code arguments budget f (refused f says)) (then (rw e at first) a)
 
-  pub loaded : f.number ≡ 0 → Bytes code
+  pub loaded : (L : Loaded) → r ≡ Ok L → Answered.Says tables code (Ok L) → Bytes code
       → ((M : Module) → Fine M → Bounded M → Holds M code L → Appended s1 at1 (loaded_rest M arguments budget) s2 at2)
       → Appended s 0 (replay tables code arguments budget ++ line_feed) s2 at2
-  unfolding Loads.Answers
-  loaded z b a =
-      let t = stands f none L says z in
+  unfolding numbered
+  loaded L e says b a =
+      let t = stands L says in
       let M = t.module_is in
-      let q : f ≡ no_fault = (rw t.loads at says).0 in
-      same (loaded_line tables code arguments budget M t.loads f q)
-      (then first (a M (fine tables code M b t.loads) (bounded tables code M t.loads) t.holds))
+      same (loaded_line tables code arguments budget M t.loads)
+      (then (rw e at first) (a M (fine tables code M b t.loads) (bounded tables code M t.loads) t.holds))

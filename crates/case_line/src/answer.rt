@@ -6,7 +6,6 @@ ghost use Rattle.loaded.specs.Holds.{Holds};
 ghost use Rattle.state.specs.Order.{Fine};
 ghost use Rattle.checker.specs.Bounded.{Bounded};
 ghost use Rattle.line.specs.Append.{Appended};
-ghost use Rattle.between_steps.specs.Running.{lent_loaded};
 ghost use Rattle.runner.specs.Answers.{Loads};
 ghost use Rattle.state_text.specs.Texts.{Told};
 ghost use Rattle.case_line.specs.Case.{line_feed};
@@ -15,8 +14,9 @@ ghost use Rattle.case_line.specs.Texts.{loaded_rest, refuses as refuses_of};
 use crate::parts::{check_part, load_part, refused_rest, run_part};
 use checker::check;
 use line::numbers::{put, word};
-use loaded::Counts;
-use loader::load_into;
+use loaded::Loaded;
+use loader::load;
+use loitsupar::numbered::numbered;
 use prepare::types;
 use runner::run;
 use state_text::whole::state;
@@ -69,34 +69,18 @@ fn state_part<'a>(
 fn loaded_rest(
     out: &mut [u8],
     at: usize,
-    counts: Counts,
-    parents: &[u8; 33],
-    initialisers: &[u8; 33],
-    fields: &[u8; 516],
-    methods: &[u8; 4128],
-    parts: &[usize; 258],
+    loaded: &Loaded,
     code: &[u8],
     arguments: &[u64],
     budget: u64,
 ) -> usize
-    requires { Loads code.now (lent_loaded counts parents.now initialisers.now fields.now methods.now parts.now) }
-    ensures { (M : Module) → Fine M → Bounded M →
-        Holds M code.now (lent_loaded counts parents.now initialisers.now fields.now methods.now
-        parts.now) → Appended out.old at (loaded_rest M arguments.now budget) out.new result }
+    requires { Loads code.now loaded.now }
+    ensures { (M : Module) → Fine M → Bounded M → Holds M code.now loaded.now
+        → Appended out.old at (loaded_rest M arguments.now budget) out.new result }
 {
-    let found = check(counts, parents, fields, methods, parts, code);
+    let found = numbered(&check(loaded, code));
     let a = check_part(out, at, found);
-    let e = run(
-        counts,
-        parents,
-        initialisers,
-        fields,
-        methods,
-        parts,
-        code,
-        arguments,
-        budget,
-    );
+    let e = run(loaded, code, arguments, budget);
     let end = e.end;
     let value = e.value;
     let b = run_part(out, a, end, e.steps, value);
@@ -105,12 +89,18 @@ fn loaded_rest(
     }
     let mut cell_types = [0u8; 264];
     let mut static_types = [0u8; 64];
-    types(counts, parents, fields, &mut cell_types, &mut static_types);
+    types(
+        loaded.counts,
+        &loaded.parents,
+        &loaded.fields,
+        &mut cell_types,
+        &mut static_types,
+    );
     let c = state_part(
         out,
         b,
-        methods,
-        fields,
+        &loaded.methods,
+        &loaded.fields,
         &cell_types,
         e.state.live,
         &e.state.cells,
@@ -128,36 +118,10 @@ pub fn answer(tables: &[u8], code: &[u8], arguments: &[u64], budget: u64, out: &
     ensures { Appended out.old 0
         (replay tables.now code.now arguments.now budget ++ line_feed) out.new result }
 {
-    let mut parents = [0u8; 33];
-    let mut initialisers = [0u8; 33];
-    let mut fields = [0u8; 516];
-    let mut methods = [0u8; 4128];
-    let mut parts = [0usize; 258];
-    let l = load_into(
-        tables,
-        code,
-        &mut parents,
-        &mut initialisers,
-        &mut fields,
-        &mut methods,
-        &mut parts,
-    );
-    let fault = l.fault;
-    let a = load_part(out, fault);
-    if fault.number != 0 {
-        return refused_rest(out, a, fault);
+    let answer = load(tables, code);
+    let a = load_part(out, numbered(&answer));
+    match answer {
+        Ok(loaded) => loaded_rest(out, a, &loaded, code, arguments, budget),
+        Err(refusal) => refused_rest(out, a, refusal),
     }
-    loaded_rest(
-        out,
-        a,
-        l.counts,
-        &parents,
-        &initialisers,
-        &fields,
-        &methods,
-        &parts,
-        code,
-        arguments,
-        budget,
-    )
 }

@@ -1,14 +1,12 @@
 -- What stands in each cell of a state and of a shape.
 use mathlib.Core.Path.{◌≡◌, refl}
-use mathlib.Core.Bool.{Bool, true, false}
+use Rattle.std.specs.Prelude.{None, Some}
 use Prim.Native.Nat.{ℕ, ◌-◌, ◌*◌, ◌/◌, ◌≤◌, ◌<◌}
 use native.Mathlib.Nat.{div-lt_iff_lt-mul}
 use native.Mathlib.Omega.{arith}
 use borrow.Author.Tests.{lt-ltb, le-ltb}
-use mir.Val.{bool_byte}
 use lib.ListN.{get_or}
 use Rattle.model.specs.Answer.{pick}
-use Rattle.model.specs.Operators.{flag}
 use Rattle.state.specs.declared.State.{State}
 use Rattle.checker.specs.declared.tell.Found.{Found}
 use Rattle.host.specs.Hosting.{place_of, frame_place, state_cell, shape_cell}
@@ -81,20 +79,20 @@ module _ (s : State) (i : ℕ) where
 
 -- ---- A shape
 
-pub as_flag : (b : Bool) → bool_byte b ≡ flag b
-unfolding flag
-as_flag true = refl
-as_flag false = refl
+-- no shape: each cell is 0
+pub in_none : (i : ℕ) → 0 ≡ shape_cell None i
+unfolding shape_cell
+in_none i = refl
 
 module _ (f : Found) (i : ℕ) where
-  pub in_starts : i < 1 → flag f.starts ≡ shape_cell f i
+  pub in_starts : i < 1 → 1 ≡ shape_cell (Some f) i
   unfolding shape_cell pick
   in_starts h = rw (lt-ltb _ _ h)
 
-  pub in_depth : 1 ≤ i → i < 2 → f.depth ≡ shape_cell f i
+  pub in_depth : 1 ≤ i → i < 2 → f.depth ≡ shape_cell (Some f) i
   unfolding shape_cell pick
   in_depth a h = rw (le-ltb _ _ a, lt-ltb _ _ h)
 
-  pub in_types : 2 ≤ i → get_or f.types (i - 2) 0 ≡ shape_cell f i
+  pub in_types : 2 ≤ i → get_or f.types (i - 2) 0 ≡ shape_cell (Some f) i
   unfolding shape_cell pick
   in_types a = rw (le-ltb i 1 (omega arith), le-ltb _ _ a)

@@ -1,15 +1,15 @@
 -- What the functions for a host write to the cells that it lends.
-use Rattle.std.specs.Prelude.{Bool, ◌&&◌, List, [], ◌∷◌, ◌++◌, ℕ, ◌+◌, ◌-◌, ◌*◌, ◌/◌, ◌%◌, ltb, leb, length, get_or, drop}
+use Rattle.std.specs.Prelude.{Bool, ◌&&◌, List, [], ◌∷◌, ◌++◌, ℕ, ◌+◌, ◌-◌, ◌*◌, ◌/◌, ◌%◌, ltb, leb, length, get_or, drop, Option, None, Some, Result, Ok, Err}
 use Rattle.model.specs.Answer.{Answer, bad, ok, pick}
 use Rattle.model.specs.Loading.{Refusal}
-use Rattle.model.specs.Operators.{flag}
 use Rattle.model.specs.Run as Run
 use Rattle.loaded.specs.declared.Fault.{Fault}
 use Rattle.state.specs.View.{span}
 use Rattle.state.specs.declared.State.{State}
 use Rattle.checker.specs.declared.tell.Found.{Found}
 use Rattle.line.specs.declared.line.Value.{Value}
-use Rattle.line.specs.declared.line.Value.TheVariants.{None, Int32, Int64, Real, Null, Object}
+use Rattle.line.specs.declared.line.Value.TheVariants.{Int32, Int64, Real, Null, Object}
+use Rattle.line.specs.declared.line.Value.TheVariants as Values
 use Rattle.runner.specs.Answers.{told, refused_by}
 use Rattle.runner.specs.declared.Ended.{Ended}
 
@@ -51,7 +51,7 @@ fault_cells f = f.number ∷ f.method ∷ f.offset ∷ []
 
 -- a value's sort: 0 none, 1 int32, 2 int64, 3 F
 unfoldable pub sort_of : Value → ℕ
-sort_of None = 0
+sort_of Values.None = 0
 sort_of (Int32 b) = 1
 sort_of (Int64 b) = 2
 sort_of (Real b) = 3
@@ -59,7 +59,7 @@ sort_of Null = 0
 sort_of (Object b) = 0
 
 unfoldable pub bits_of : Value → ℕ
-bits_of None = 0
+bits_of Values.None = 0
 bits_of (Int32 b) = b
 bits_of (Int64 b) = b
 bits_of (Real b) = b
@@ -106,16 +106,17 @@ state_cell s i =
 unfoldable pub state_cells : State → List ℕ
 state_cells s = span (state_cell s) 0 5314
 
--- the arrays that are lent
-abbrev pub lent_state : ℕ → List ℕ → List ℕ → List ℕ → List ℕ → List ℕ → List ℕ → State
-lent_state live cells kinds statics marks classes heap =
-    record { live = live; cells = cells; kinds = kinds; statics = statics; marks = marks; classes = classes; heap = heap }
-
 -- ---- A shape
 
--- cell i: whether an instruction starts there, the depth, the types as bytes
-unfoldable pub shape_cell : Found → ℕ → ℕ
-shape_cell f i = pick (ltb i 1) (flag f.starts) (pick (ltb i 2) f.depth (get_or f.types (i - 2) 0))
+-- the shape found in an answer: none behind a fault
+unfoldable pub found_in : Result (Option Found) Fault → Option Found
+found_in (Ok shape) = shape
+found_in (Err f) = None
 
-unfoldable pub shape_cells : Found → List ℕ
-shape_cells f = span (shape_cell f) 0 34
+-- cell i: whether an instruction starts there, the depth, the types as bytes; all 0 where none starts
+unfoldable pub shape_cell : Option Found → ℕ → ℕ
+shape_cell None i = 0
+shape_cell (Some f) i = pick (ltb i 1) 1 (pick (ltb i 2) f.depth (get_or f.types (i - 2) 0))
+
+unfoldable pub shape_cells : Option Found → List ℕ
+shape_cells s = span (shape_cell s) 0 34

@@ -4,6 +4,7 @@ ghost use Rattle.host.specs.Hosting.{over, fault_cells, told_cells, sort_of, bit
 
 use line::line::Value;
 use loaded::Fault;
+use runner::Summary;
 
 // How many cells a fault has, and how many an answer.
 pub const FAULT: usize = 3;
@@ -19,19 +20,12 @@ const INT64: u64 = 2;
 
 const F: u64 = 3;
 
-// A byte as a cell.
-pub fn wide(x: u8) -> u64
-    ensures { result ≡ x }
-{
-    x as u64
-}
-
 // A fault: number, method row, offset.
 pub fn lay_fault(out: &mut [u64], f: Fault)
     requires { 3 ≤ length out.old }
     ensures { out.new ≡ over (fault_cells f) out.old }
 {
-    out[0] = wide(f.number);
+    out[0] = u64::from(f.number);
     out[1] = f.method as u64;
     out[2] = f.offset as u64;
 }
@@ -65,12 +59,12 @@ fn bits_of(value: Value) -> u64
 }
 
 // An answer: how the run ended and where, its steps, sort and bits of its value.
-pub fn lay_answer(out: &mut [u64], end: Fault, steps: u64, value: Value)
+pub fn lay_answer(out: &mut [u64], summary: Summary)
     requires { 6 ≤ length out.old }
-    ensures { out.new ≡ over (told_cells end steps value) out.old }
+    ensures { out.new ≡ over (told_cells summary.end summary.steps summary.value) out.old }
 {
-    lay_fault(out, end);
-    out[3] = steps;
-    out[4] = sort_of(value);
-    out[5] = bits_of(value);
+    lay_fault(out, summary.end);
+    out[3] = summary.steps;
+    out[4] = sort_of(summary.value);
+    out[5] = bits_of(summary.value);
 }

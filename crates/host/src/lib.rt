@@ -10,15 +10,17 @@ mod shape; // the cells of a shape
 ghost use Rattle.std.specs.Prelude.{◌≡◌};
 ghost use Rattle.model.specs.Check.{check as check_of, shape_found};
 ghost use Rattle.model.specs.Run.{run as run_of};
-ghost use Rattle.loitsupar.specs.Public.{checked, told_of};
-ghost use Rattle.host.specs.Hosting.{enough_to_check, enough_to_run, enough_to_tell, status, written, fault_cells, ended_by, answer_cells, state_cells, shape_cells};
+ghost use Rattle.loitsupar.specs.Public.{checked, told_of, numbered};
+ghost use Rattle.host.specs.Hosting.{enough_to_check, enough_to_run, enough_to_tell, status, written, fault_cells, ended_by, answer_cells, state_cells, found_in, shape_cells};
 
 use answers::{ANSWER, FAULT, lay_answer, lay_fault};
 use loitsupar::checking::check;
 use loitsupar::lent::run;
+use loitsupar::numbered::numbered;
 use loitsupar::telling::tell;
 use parts::STATE;
 use shape::{SHAPE, lay_shape};
+use state::State;
 use states::lay_state;
 
 // What is said of the cells that were lent.
@@ -31,12 +33,12 @@ const TOO_FEW: u32 = 1;
 pub extern "C" fn loitsupar_check(tables: &[u8], code: &[u8], fault: &mut [u64]) -> u32
     ensures value { result ≡ status (enough_to_check fault.old) }
     ensures fault_after { fault.new
-        ≡ written (enough_to_check fault.old) (fault_cells (checked (check_of tables.now code.now))) fault.old }
+        ≡ written (enough_to_check fault.old) (fault_cells (numbered (checked (check_of tables.now code.now)))) fault.old }
 {
     if fault.len() < FAULT {
         return TOO_FEW;
     }
-    lay_fault(fault, check(tables, code));
+    lay_fault(fault, numbered(&check(tables, code)));
     WRITTEN
 }
 
@@ -63,30 +65,10 @@ pub extern "C" fn loitsupar_run(
     if state.len() < STATE {
         return TOO_FEW;
     }
-    let mut cells = [0u64; 2048];
-    let mut kinds = [0u8; 2048];
-    let mut marks = [0u8; 33];
-    let mut classes = [0u8; 256];
-    let mut heap = [0u64; 2048];
-    let mut statics = [0u64; 64];
-    let s = run(
-        tables,
-        code,
-        arguments,
-        budget,
-        &mut cells,
-        &mut kinds,
-        &mut marks,
-        &mut classes,
-        &mut heap,
-        &mut statics,
-    );
-    let end = s.end;
-    let value = s.value;
-    lay_answer(answer, end, s.steps, value);
-    lay_state(
-        state, s.live, &cells, &kinds, &statics, &marks, &classes, &heap,
-    );
+    let mut lent = State::new();
+    let summary = run(tables, code, arguments, budget, &mut lent);
+    lay_answer(answer, summary);
+    lay_state(state, &lent);
     WRITTEN
 }
 
@@ -103,9 +85,9 @@ pub extern "C" fn loitsupar_tell(
 ) -> u32
     ensures value { result ≡ status (enough_to_tell fault.old shape.old) }
     ensures fault_after { fault.new ≡ written (enough_to_tell fault.old shape.old)
-        (fault_cells (told_of (shape_found tables.now code.now row offset)).fault) fault.old }
+        (fault_cells (numbered (told_of (shape_found tables.now code.now row offset)))) fault.old }
     ensures shape_after { shape.new ≡ written (enough_to_tell fault.old shape.old)
-        (shape_cells (told_of (shape_found tables.now code.now row offset)).found) shape.old }
+        (shape_cells (found_in (told_of (shape_found tables.now code.now row offset)))) shape.old }
 {
     if fault.len() < FAULT {
         return TOO_FEW;
@@ -113,11 +95,8 @@ pub extern "C" fn loitsupar_tell(
     if shape.len() < SHAPE {
         return TOO_FEW;
     }
-    let t = tell(tables, code, row as usize, offset as usize);
-    let f = t.fault;
-    lay_fault(fault, f);
-    let found = t.found;
-    let types = found.types;
-    lay_shape(shape, found.starts, found.depth, &types);
+    let told = tell(tables, code, row as usize, offset as usize);
+    lay_fault(fault, numbered(&told));
+    lay_shape(shape, &told.unwrap_or(None));
     WRITTEN
 }

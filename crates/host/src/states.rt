@@ -1,10 +1,9 @@
 // The cells of a state, in a host's order: each part for all frames together, where the machine has a frame's cells together.
 ghost use Rattle.std.specs.Prelude.{◌≡◌, ◌+◌, ◌*◌, ◌≤◌, ◌<◌, length};
-ghost use Rattle.host.specs.Hosting.{over, place_of, frame_place, lent_state, state_cell, state_cells};
+ghost use Rattle.host.specs.Hosting.{over, place_of, frame_place, state_cell, state_cells};
 
-use crate::answers::wide;
 use crate::parts;
-use state::columns;
+use state::{State, columns};
 
 // How many cells a frame has for its stack, its arguments and its locals.
 const STACK_CELLS: usize = 32;
@@ -45,61 +44,37 @@ fn frame_place(i: usize) -> usize
 }
 
 // Cell i of a state.
-fn state_cell(
-    i: usize,
-    live: usize,
-    cells: &[u64; 2048],
-    kinds: &[u8; 2048],
-    statics: &[u64; 64],
-    marks: &[u8; 33],
-    classes: &[u8; 256],
-    heap: &[u64; 2048],
-) -> u64
+fn state_cell(i: usize, state: &State) -> u64
     requires { i < 5314 }
-    ensures { result ≡ state_cell (lent_state live cells.now kinds.now statics.now marks.now classes.now
-        heap.now) i }
+    ensures { result ≡ state_cell state.now i }
 {
     if i < parts::KINDS {
-        return live as u64;
+        return state.live as u64;
     }
     if i < parts::STACKS {
-        let p = place(columns::STACK, STACK_CELLS, i - parts::KINDS);
-        return wide(kinds[p]);
+        return u64::from(state.kinds[place(columns::STACK, STACK_CELLS, i - parts::KINDS)]);
     }
     if i < parts::STATICS {
-        let p = frame_place(i);
-        return cells[p];
+        return state.cells[frame_place(i)];
     }
     if i < parts::MARKS {
-        return statics[i - parts::STATICS];
+        return state.statics[i - parts::STATICS];
     }
     if i < parts::CLASSES {
-        return wide(marks[i - parts::MARKS]);
+        return u64::from(state.marks[i - parts::MARKS]);
     }
     if i < parts::HEAP {
-        return wide(classes[i - parts::CLASSES]);
+        return u64::from(state.classes[i - parts::CLASSES]);
     }
-    heap[i - parts::HEAP]
+    state.heap[i - parts::HEAP]
 }
 
 // A state, cell by cell.
-pub fn lay_state(
-    out: &mut [u64],
-    live: usize,
-    cells: &[u64; 2048],
-    kinds: &[u8; 2048],
-    statics: &[u64; 64],
-    marks: &[u8; 33],
-    classes: &[u8; 256],
-    heap: &[u64; 2048],
-)
+pub fn lay_state(out: &mut [u64], state: &State)
     requires { 5314 ≤ length out.old }
-    ensures { out.new ≡ over (state_cells (lent_state live cells.now kinds.now statics.now marks.now
-        classes.now heap.now)) out.old }
+    ensures { out.new ≡ over (state_cells state.now) out.old }
 {
-    let mut i: usize = 0;
-    while i < parts::STATE {
-        out[i] = state_cell(i, live, cells, kinds, statics, marks, classes, heap);
-        i += 1;
+    for i in 0..parts::STATE {
+        out[i] = state_cell(i, state);
     }
 }

@@ -5,15 +5,15 @@
 ghost use Rattle.std.specs.Prelude.{◌≡◌};
 ghost use Rattle.model.specs.Check.{check as check_of, shape_found};
 ghost use Rattle.model.specs.Run.{run as run_of};
-ghost use Rattle.loitsupar.specs.Public.{checked, told_of};
-ghost use Rattle.host.specs.Hosting.{enough_to_check, enough_to_run, enough_to_tell, status, written, fault_cells, ended_by, answer_cells, state_cells, shape_cells};
+ghost use Rattle.loitsupar.specs.Public.{checked, told_of, numbered};
+ghost use Rattle.host.specs.Hosting.{enough_to_check, enough_to_run, enough_to_tell, status, written, fault_cells, ended_by, answer_cells, state_cells, found_in, shape_cells};
 
 // Loads and checks a module: number, 0 where it passes, method row and offset.
 #[unsafe(no_mangle)]
 pub extern "C" fn loitsupar_check(tables: &[u8], code: &[u8], fault: &mut [u64]) -> u32
     ensures value { result ≡ status (enough_to_check fault.old) }
     ensures fault_after { fault.new
-        ≡ written (enough_to_check fault.old) (fault_cells (checked (check_of tables.now code.now))) fault.old }
+        ≡ written (enough_to_check fault.old) (fault_cells (numbered (checked (check_of tables.now code.now)))) fault.old }
 {
     host::loitsupar_check(tables, code, fault)
 }
@@ -51,9 +51,9 @@ pub extern "C" fn loitsupar_tell(
 ) -> u32
     ensures value { result ≡ status (enough_to_tell fault.old shape.old) }
     ensures fault_after { fault.new ≡ written (enough_to_tell fault.old shape.old)
-        (fault_cells (told_of (shape_found tables.now code.now row offset)).fault) fault.old }
+        (fault_cells (numbered (told_of (shape_found tables.now code.now row offset)))) fault.old }
     ensures shape_after { shape.new ≡ written (enough_to_tell fault.old shape.old)
-        (shape_cells (told_of (shape_found tables.now code.now row offset)).found) shape.old }
+        (shape_cells (found_in (told_of (shape_found tables.now code.now row offset)))) shape.old }
 {
     host::loitsupar_tell(tables, code, row, offset, fault, shape)
 }

@@ -1,7 +1,7 @@
 -- The answers over tables and code from what loading says, and what the check and the run of the module say.
 use Prim.Native.Nat.{ℕ, ◌≤◌, ◌<◌}
 use mathlib.Core.Path.{◌≡◌, refl, sym, ap, ◌∙◌}
-use mathlib.Core.Option.{none}
+use Rattle.std.specs.Prelude.{Option, Result, Ok, Err, ⊤}
 use mathlib.Core.List.{List}
 use native.Mathlib.Omega.{arith}
 use Rattle.model.specs.Answer.{Answer, bad, ok, ◌>>=◌, blame}
@@ -13,7 +13,8 @@ use Rattle.model.proofs.Certificate.{check_module_lem}
 use Rattle.loaded.specs.Holds.{Holds}
 use Rattle.loaded.specs.declared.Fault.{Fault}
 use Rattle.loaded.specs.declared.Loaded.{Loaded}
-use Rattle.loader.specs.Answers.{Answers, fault_of, no_fault}
+use Rattle.loader.specs.Answers.{Answers}
+use Rattle.loader.specs.Refusals.{fault_of}
 use Rattle.state.specs.Order.{Fine}
 use Rattle.faithful.proofs.Constants.{Bytes}
 use Rattle.faithful.proofs.Loads.{fine}
@@ -25,7 +26,6 @@ use Rattle.runner.specs.Answers.{Loads, refused_by}
 use Rattle.runner.specs.Answers as Ran
 use Rattle.runner.specs.declared.Ended.{Ended}
 use Rattle.loitsupar.specs.Public.{checked, told_of}
-use Rattle.loitsupar.specs.declared.telling.Told.{Told}
 use Rattle.loitsupar.proofs.Bounds.{bounded}
 
 -- the model's refusal, whose number and place the fault has
@@ -34,46 +34,50 @@ pub record Refused (tables code : List ℕ) (a : Fault) : Type 0 where
   pub refuses : load tables code ≡ bad refusal_is
   pub same : a ≡ fault_of refusal_is
 
--- the model's module, which the arrays hold
+-- the model's module, which was loaded
 pub record Stands (tables code : List ℕ) (L : Loaded) : Type 0 where
   pub module_is : Module
   pub loads : load tables code ≡ ok module_is
   pub holds : Holds module_is code L
 
-module _ {tables code : List ℕ} (a : Fault) (none : Type 0) (L : Loaded) (says : Answers (load tables code) a none (λ M. Holds M code L)) where
-  -- a fault of loading is the model's refusal
-  pub refused : (a.number ≡ 0 → ⊥) → Refused tables code a
-  unfolding Answers no_fault
-  refused n = go (load tables code) refl says
-    where
-      go : (A : Answer Refusal Module) → load tables code ≡ A → Answers A a none (λ M. Holds M code L) → Refused tables code a
-      go (bad f) q s = record { refusal_is = f; refuses = q; same = s.0 }
-      go (ok M) q s = absurd (n (ap (λ (x : Fault). x.number) s.0))
+-- what loading says of its answer
+abbrev pub Says : List ℕ → List ℕ → Result Loaded Fault → Type 0
+Says tables code r = Answers (load tables code) r ⊤ (λ L M. Holds M code L)
 
-  -- behind no fault stands a module
-  pub stands : a.number ≡ 0 → Stands tables code L
-  unfolding Answers fault_of
-  stands e = go (load tables code) refl says
+module _ {tables code : List ℕ} where
+  -- a fault of loading is the model's refusal
+  pub refused : (a : Fault) → Says tables code (Err a) → Refused tables code a
+  unfolding Answers
+  refused a says = go (load tables code) refl says
     where
-      go : (A : Answer Refusal Module) → load tables code ≡ A → Answers A a none (λ M. Holds M code L) → Stands tables code L
-      go (bad f) q s = let k : 1 ≤ f.number = s.1 in let z : f.number ≡ 0 = sym (ap (λ (x : Fault). x.number) s.0) ∙ e in absurd (omega arith)
-      go (ok M) q s = record { module_is = M; loads = q; holds = s.1 }
+      go : (A : Answer Refusal Module) → load tables code ≡ A → Answers A (Err a) ⊤ (λ L M. Holds M code L) → Refused tables code a
+      go (bad f) q s = record { refusal_is = f; refuses = q; same = s.0 }
+      go (ok M) q s = absurd s
+
+  -- behind what is loaded stands a module
+  pub stands : (L : Loaded) → Says tables code (Ok L) → Stands tables code L
+  unfolding Answers
+  stands L says = go (load tables code) refl says
+    where
+      go : (A : Answer Refusal Module) → load tables code ≡ A → Answers A (Ok L) ⊤ (λ L M. Holds M code L) → Stands tables code L
+      go (bad f) q s = absurd s
+      go (ok M) q s = record { module_is = M; loads = q; holds = s }
 
 module _ {tables code : List ℕ} {a : Fault} (r : Refused tables code a) where
   -- a refusal is passed on by the check
-  pub not_checked : a ≡ checked (check tables code)
-  unfolding check checked blame ◌>>=◌ fault_in fault_of Checks.fault_of
-  not_checked = r.same ∙ sym (rw r.refuses)
+  pub not_checked : Err a ≡ checked (check tables code)
+  unfolding check checked blame ◌>>=◌ fault_in Checks.fault_of
+  not_checked = ap Err r.same ∙ sym (rw r.refuses)
 
   -- and by the run
   pub not_run : (arguments : List ℕ) (budget : ℕ) (x : Ended) → x ≡ refused_by (record { number = a.number; place = a.offset })
       → Ran.Answers (run tables code arguments budget) x
-  unfolding run ◌>>=◌ Ran.Answers fault_of
+  unfolding run ◌>>=◌ Ran.Answers
   not_run arguments budget x e = rw r.refuses (e ∙ ap (λ (f : Fault). refused_by (record { number = f.number; place = f.offset })) r.same)
 
 module _ {tables code : List ℕ} {L : Loaded} (s : Stands tables code L) where
   -- a loaded module's check is the answer
-  pub checks : (x : Fault) → ((M : Module) → Bounded M → Holds M code L → Checks.Answers (check_module M) x) → Checks.Answers (check tables code) x
+  pub checks : (x : Result ⊤ Fault) → ((M : Module) → Bounded M → Holds M code L → Checks.Answers (check_module M) x) → Checks.Answers (check tables code) x
   unfolding check blame ◌>>=◌
   checks x h = rw s.loads (h s.module_is (bounded tables code s.module_is s.loads) s.holds)
 
@@ -89,38 +93,36 @@ module _ {tables code : List ℕ} {L : Loaded} (s : Stands tables code L) where
 
 -- ---- What the check's answer says
 
-module _ (tables code : List ℕ) (x : Fault) where
+module _ (tables code : List ℕ) where
   -- the check's answer is the first fault, or none
-  pub is_checked : Checks.Answers (check tables code) x → x ≡ checked (check tables code)
+  pub is_checked : (x : Result ⊤ Fault) → Checks.Answers (check tables code) x → x ≡ checked (check tables code)
   unfolding checked Checks.Answers
-  is_checked says = go (check tables code) says
+  is_checked x says = go (check tables code) says
     where
       go : (A : Answer ModelFault (List Shapes)) → Checks.Answers A x → x ≡ checked A
       go (bad f) h = h.0
       go (ok found) h = h
 
   -- behind a fault nothing is found
-  pub not_told : x ≡ checked (check tables code) → (x.number ≡ 0 → ⊥) → (row offset : ℕ) (t : Told) → t ≡ record { fault = x; found = told none }
-      → t ≡ told_of (shape_found tables code row offset)
-  unfolding shape_found told_of checked Checks.no_fault ◌>>=◌
-  not_told e n row offset t q = q ∙ go (check tables code) e
+  pub not_told : (a : Fault) → Err a ≡ checked (check tables code) → (row offset : ℕ) → Err a ≡ told_of (shape_found tables code row offset)
+  unfolding shape_found told_of checked ◌>>=◌
+  not_told a e row offset = go (check tables code) e
     where
-      go : (A : Answer ModelFault (List Shapes)) → x ≡ checked A
-          → record { fault = x; found = told none } ≡ told_of (A >>= λ found. ok (found_at found row offset))
-      go (bad f) h = ap (λ (y : Fault). record { fault = y; found = told none }) h
-      go (ok found) h = absurd (n (ap (λ (y : Fault). y.number) h))
+      go : (A : Answer ModelFault (List Shapes)) → Err a ≡ checked A → Err a ≡ told_of (A >>= λ found. ok (found_at found row offset))
+      go (bad f) h = cc
+      go (ok found) h = absurd cc
 
   -- behind none the shape is told that the check of the loaded module found
-  pub tells : {L : Loaded} → Stands tables code L → Checks.Answers (check tables code) x → x.number ≡ 0 → (row offset : ℕ) (f : Found)
+  pub tells : {L : Loaded} → Stands tables code L → Checks.Answers (check tables code) (Ok tt) → (row offset : ℕ) (f : Option Found)
       → ((M : Module) (found : List Shapes) → Bounded M → Holds M code L → check_module M ≡ ok found → f ≡ told (found_at found row offset))
-      → record { fault = x; found = f } ≡ told_of (shape_found tables code row offset)
-  unfolding shape_found told_of Checks.Answers Checks.fault_of ◌>>=◌
-  tells {L} s says e row offset f h = go (check tables code) refl says
+      → Ok f ≡ told_of (shape_found tables code row offset)
+  unfolding shape_found told_of Checks.Answers ◌>>=◌
+  tells {L} s says row offset f h = go (check tables code) refl says
     where
-      go : (A : Answer ModelFault (List Shapes)) → check tables code ≡ A → Checks.Answers A x
-          → record { fault = x; found = f } ≡ told_of (A >>= λ found. ok (found_at found row offset))
-      go (bad g) q k = let low : 10 < g.number = k.1 in let z : g.number ≡ 0 = sym (ap (λ (y : Fault). y.number) k.0) ∙ e in absurd (omega arith)
+      go : (A : Answer ModelFault (List Shapes)) → check tables code ≡ A → Checks.Answers A (Ok tt)
+          → Ok f ≡ told_of (A >>= λ found. ok (found_at found row offset))
+      go (bad g) q k = let z : ◌≡◌ {A = Result ⊤ Fault} (Ok tt) (Err (Checks.fault_of g)) = k.0 in absurd cc
       go (ok found) q k =
           let M = s.module_is in
           let same = h M found (bounded tables code M s.loads) s.holds (check_module_lem tables code M found s.loads q) in
-          cc
+          ap Ok same

@@ -1,7 +1,7 @@
 -- The running frame in the arrays that a run hands back, against the types of a shape as they are told.
 use Prim.Native.Nat.{ℕ, zero, suc, ◌+◌, ◌-◌, ◌*◌, ◌/◌, ◌%◌, ◌≤◌, ◌<◌}
 use mathlib.Core.Path.{◌≡◌, refl, sym, ap, ◌∙◌}
-use mathlib.Core.Bool.{true}
+use Rattle.std.specs.Prelude.{Option, Some, Result, Ok}
 use mathlib.Core.Logic.{◌⊎◌, inl, inr}
 use mathlib.Core.Option.{none, some}
 use mathlib.Core.List.{List, [], ◌∷◌, ◌++◌, append_assoc}
@@ -18,6 +18,7 @@ use Rattle.model.specs.State.{Value, vint32, vint64, v_f, vnull, vobject, Object
 use Rattle.model.specs.State as Model
 use Rattle.model.proofs.Ancestors.{Falls, Above, here, Under, itself, nothing, derived, above_descends}
 use Rattle.model.proofs.Typing.{Has, has_under, object_is, Fit, fnil, fcons, fit_length, HeapFits}
+use Rattle.loaded.specs.declared.Fault.{Fault}
 use Rattle.state.specs.View.{depth_of}
 use Rattle.state.specs.Layout.{bottom, from, cell_in, kind_in, frame_cell, frame_kind, lay_out}
 use Rattle.state.specs.declared.State.{State}
@@ -37,12 +38,13 @@ pub data OfType (parents classes : List ℕ) : ℕ → ℕ → ℕ → Type 0 wh
   no_object : (c : ℕ) → OfType parents classes (32 + c) 0 0
   an_object : (c : ℕ) {n : ℕ} → T (descends parents (get_or classes n 0) c) → OfType parents classes (32 + c) 0 (suc n)
 
--- the stack of frame k has the depth told, and each of its cells, from the bottom up, is of the type told
-pub record StackTold (parents : List ℕ) (k : ℕ) (s : State) (t : Found) : Type 0 where
-  pub starts : t.starts ≡ true
-  pub depth : depth_of s.cells k ≡ t.depth
-  pub cell : (i : ℕ) → i < t.depth
-      → OfType parents s.classes (get_or t.types i 0) (get_or s.kinds (k * 64 + (24 + i)) 0) (get_or s.cells (k * 64 + (24 + i)) 0)
+-- what is told is a shape; the stack of frame k has its depth, and each of the cells, from the bottom up, is of the type told
+pub record StackTold (parents : List ℕ) (k : ℕ) (s : State) (t : Result (Option Found) Fault) : Type 0 where
+  pub found : Found
+  pub starts : t ≡ Ok (Some found)
+  pub depth : depth_of s.cells k ≡ found.depth
+  pub cell : (i : ℕ) → i < found.depth
+      → OfType parents s.classes (get_or found.types i 0) (get_or s.kinds (k * 64 + (24 + i)) 0) (get_or s.cells (k * 64 + (24 + i)) 0)
 
 -- ---- Values against types
 
@@ -183,10 +185,11 @@ module _ (M : Module) (w : Falls M.parents) (s : Model.State) (fits : HeapFits M
 
   -- the running frame, of 32 at most, whose stack fits a shape: it is as that shape is told
   pub stack_told : (f : Frame) (fs : List Frame) → s.frames ≡ f ∷ fs → length s.frames ≤ 32 → (S : Shape) → Fit M s.heap f.stack S → length S ≤ 32
-      → StackTold M.parents (length fs) (lay_out s) (told (some S))
+      → StackTold M.parents (length fs) (lay_out s) (Ok (told (some S)))
   unfolding told
   stack_told f fs e few S fit low =
       record {
+        found = _;
         starts = refl;
         depth = frame_cell_lem s f fs e few 57 (omega arith) ∙ (frame_depth f ∙ fit_length fit);
         cell = λ i h.

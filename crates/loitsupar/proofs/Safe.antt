@@ -29,9 +29,10 @@ use Rattle.checker.proofs.Telling.{method_found, method_passed}
 use Rattle.runner.specs.Answers.{Answers, told, refused_by}
 use Rattle.runner.specs.declared.Ended.{Ended}
 use Rattle.loitsupar.specs.Public.{checked, told_of}
-use Rattle.loitsupar.specs.declared.telling.Told.{Told}
+use Rattle.checker.specs.declared.tell.Found.{Found}
+use Rattle.std.specs.Prelude.{Option, Result, Ok, Err, ⊤}
 use Rattle.loitsupar.proofs.Bounds.{bounded}
-use Rattle.loitsupar.proofs.Numbers.{fault_numbered, refusal_numbered}
+use Rattle.loitsupar.proofs.Numbers.{refusal_numbered}
 use Rattle.loitsupar.proofs.Sizes.{Sized, run_sized}
 use Rattle.loitsupar.proofs.InArrays.{StackTold, stack_told}
 
@@ -52,8 +53,8 @@ pub record Safe (tables code : List ℕ) (budget : ℕ) (r : Ended) : Type 0 whe
   pub model : Module
   pub loads : load tables code ≡ ok model
   -- its stack has the depth, and its cells the types and classes, that `tell` answers for the method and offset of the end
-  pub stack : (k : ℕ) → r.state.live ≡ suc k → (t : Told) → t ≡ told_of (shape_found tables code r.end.method r.end.offset)
-      → StackTold model.parents k r.state t.found
+  pub stack : (k : ℕ) → r.state.live ≡ suc k → (t : Result (Option Found) Fault) → t ≡ told_of (shape_found tables code r.end.method r.end.offset)
+      → StackTold model.parents k r.state t
   -- the whole state is that of the model's run: every frame, static field and object fits what is declared and what the check found
   pub ended : ModelEnded
   pub same : r ≡ told ended
@@ -87,7 +88,7 @@ module _ (tables code : List ℕ) (M : Module) (found : List Shapes) (loads : lo
       subst (λ (x : Frame). row M.methods x.method ≡ some (method_at M.methods x.method)) z p.is
 
   running_told : (e : ModelEnded) → ModelSafe M found e → Sized e → (l : List Frame) → e.state.frames ≡ l → (k : ℕ) → length l ≡ suc k
-      → StackTold M.parents k (lay_out e.state) (told_of (shape_found tables code e.method e.offset)).found
+      → StackTold M.parents k (lay_out e.state) (told_of (shape_found tables code e.method e.offset))
   unfolding told_of
   running_told e S z [] q k n = absurd (omega arith)
   running_told e S z (f ∷ fs) q k n =
@@ -128,18 +129,15 @@ stopped : (tables code arguments : List ℕ) (k : ℕ) (M : Module) (vs : List V
 unfolding run run_module ◌>>=◌ need guard
 stopped tables code arguments k M vs s few l a p = rw (l, a, le-leb k most_budget few, passed k p)
 
-module _ (tables code arguments : List ℕ) (budget : ℕ) (f : Fault) (r : Ended) (checks : f ≡ checked (check tables code))
-    (runs : Answers (run tables code arguments budget) r) (passes : f.number ≡ 0) where
+module _ (tables code arguments : List ℕ) (budget : ℕ) (f : Result ⊤ Fault) (r : Ended) (checks : f ≡ checked (check tables code))
+    (runs : Answers (run tables code arguments budget) r) (passes : f ≡ Ok tt) where
   -- the check found shapes
   shapes : (found : List Shapes) × (check tables code ≡ ok found)
   unfolding checked fault_of
   shapes = go (check tables code) refl checks
     where
       go : (A : Answer ModelFault (List Shapes)) → check tables code ≡ A → f ≡ checked A → (found : List Shapes) × (check tables code ≡ ok found)
-      go (bad g) e q =
-          let low = fault_numbered tables code g e in
-          let z : g.number ≡ 0 = sym (ap (λ (x : Fault). x.number) q) ∙ passes in
-          absurd (omega arith)
+      go (bad g) e q = let z : ◌≡◌ {A = Result ⊤ Fault} (Ok tt) (Err (fault_of g)) = sym passes ∙ q in absurd cc
       go (ok found) e q = (found, e)
 
   -- the run was refused, or made

@@ -54,13 +54,7 @@ fn body<'a>(code: &'a [u8], parts: &[usize; 258], row: usize) -> &'a [u8]
 }
 
 // At most `budget` steps from the first registers on. What the steps do is left in the state.
-pub fn steps(
-    state: &mut State,
-    loaded: &Loaded,
-    code: &[u8],
-    first: Moved,
-    budget: u64,
-) -> Stopped
+pub fn steps(state: &mut State, loaded: &Loaded, code: &[u8], first: Moved, budget: u64) -> Stopped
     requires { Sets code.now loaded.now (work_of (regs_of first) state.old) }
     ensures result_range { (result.left ≤ budget) × (result.last.how ≡ 1 → 0 < result.left) }
     ensures ends { ((M : Module) → Fine M → Holds M code.now loaded.now →

@@ -12,8 +12,8 @@ ghost use Rattle.state.specs.Order.{Fine};
 ghost use Rattle.runner.specs.Answers.{Loads, Answers, refused_by, number_of};
 ghost use Rattle.runner.specs.Playing.{ended_with, AllZero};
 
-pub use crate::summary::Summary;
 use crate::playing::played;
+pub use crate::summary::Summary;
 use begin_end::admission::admit;
 use line::line::Value;
 use loaded::{Fault, Loaded};

@@ -71,7 +71,11 @@ fn live(last: Moved) -> usize
     requires { last.fp ≤ 1984 }
     ensures { result ≡ pick (eqb last.how 1) 0 (suc (last.fp / 64)) }
 {
-    if last.how == OVER { 0 } else { last.fp / FRAME + 1 }
+    if last.how == OVER {
+        0
+    } else {
+        last.fp / FRAME + 1
+    }
 }
 
 // What is told of how the loop was left: after a return from the entry a value stands in the first cell of the entry's stack.
@@ -110,7 +114,20 @@ pub fn played(loaded: &Loaded, code: &[u8], budget: u64, state: &mut State) -> S
     let summary = told(r, budget, loaded, state);
     let mut cell_types = [0u8; 264];
     let mut static_types = [0u8; 64];
-    types(loaded.counts, &loaded.parents, &loaded.fields, &mut cell_types, &mut static_types);
-    tidy(r.last, live(r.last), loaded, &cell_types, &static_types, state);
+    types(
+        loaded.counts,
+        &loaded.parents,
+        &loaded.fields,
+        &mut cell_types,
+        &mut static_types,
+    );
+    tidy(
+        r.last,
+        live(r.last),
+        loaded,
+        &cell_types,
+        &static_types,
+        state,
+    );
     summary
 }

@@ -1,5 +1,6 @@
 -- The parts of a line in their order, and how long it can be.
 use mathlib.Core.Path.{◌≡◌, refl, sym, ap, ◌∙◌}
+use mathlib.Core.Bool.{Bool}
 use mathlib.Core.List.{List, [], ◌∷◌, ◌++◌, append_assoc, append-nil}
 use Prim.Native.Nat.{ℕ, ◌+◌, ◌*◌, ◌≤◌, ◌<◌}
 use native.Mathlib.Numerals.{add-one}
@@ -11,8 +12,11 @@ use Rattle.model.specs.Turn.{decimal, space}
 use Rattle.line.specs.Append.{Appended}
 use Rattle.line.proofs.Appending.{same, then}
 use Rattle.line.proofs.Spelling.{decimal_length}
-use Rattle.loitsupar.specs.declared.telling.Told.{Told}
-use Rattle.tell_line.specs.Shapes.{spaced, line_of}
+use Rattle.std.specs.Prelude.{Option, Result}
+use Rattle.loaded.specs.declared.Fault.{Fault}
+use Rattle.checker.specs.declared.tell.Found.{Found}
+use Rattle.loitsupar.specs.Public.{numbered}
+use Rattle.tell_line.specs.Shapes.{spaced, seen, line_of}
 
 -- ---- Numbers after spaces
 
@@ -39,12 +43,16 @@ through l i h a = same (ap spaced (take_all i l h)) a
 
 -- ---- The line
 
-pub in_order : (t : Told) (starts : ℕ) → starts ≡ flag t.found.starts
-    → ((((((decimal t.fault.number ++ space) ++ (decimal t.fault.method ++ space)) ++ (decimal t.fault.offset ++ space))
-    ++ (decimal starts ++ space)) ++ decimal t.found.depth) ++ spaced (take t.found.depth t.found.types)) ++ (10 ∷ [])
+-- what is written of an answer
+abbrev pub Told : Type 0
+Told = Result (Option Found) Fault
+
+pub in_order : (t : Told) {f : Fault} {s : Bool × ℕ × List ℕ} {n starts : ℕ} → f ≡ numbered t → s ≡ seen t → n ≡ f.number → starts ≡ flag s.0
+    → ((((((decimal n ++ space) ++ (decimal f.method ++ space)) ++ (decimal f.offset ++ space))
+    ++ (decimal starts ++ space)) ++ decimal s.1) ++ spaced (take s.1 s.2)) ++ (10 ∷ [])
     ≡ line_of t
 unfolding line_of spaced
-in_order t starts e = rw e (simp append_assoc)
+in_order t e q n b = rw (n, b, e, q) (simp append_assoc)
 
 spaced_length : (l : List ℕ) → length (spaced l) ≤ 21 * length l
 unfolding spaced space
@@ -52,19 +60,19 @@ spaced_length [] = omega arith
 spaced_length (n ∷ l) = simp length-append (omega (arith, decimal_length n, spaced_length l))
 
 -- 37 numbers at most
-line_length : (t : Told) → length t.found.types ≡ 32 → length (line_of t) ≤ 1024
+line_length : (t : Told) → length (seen t).2 ≡ 32 → length (line_of t) ≤ 1024
 unfolding line_of
 line_length t e =
-    let n : length (take t.found.depth t.found.types) ≤ 32 = omega (arith, length-take t.found.depth t.found.types) in
+    let n : length (take (seen t).1 (seen t).2) ≤ 32 = omega (arith, length-take (seen t).1 (seen t).2) in
     simp length-append
     (omega (
       arith,
-      decimal_length t.fault.number,
-      spaced_length (t.fault.method ∷ t.fault.offset ∷ flag t.found.starts ∷ t.found.depth ∷ take t.found.depth t.found.types),
+      decimal_length (numbered t).number,
+      spaced_length ((numbered t).method ∷ (numbered t).offset ∷ flag (seen t).0 ∷ (seen t).1 ∷ take (seen t).1 (seen t).2),
     ))
 
 -- a buffer of 1,024 bytes has room
-pub alone : {s s' : List ℕ} {r : ℕ} (t u : Told) → t ≡ u → length t.found.types ≡ 32 → length s ≡ 1024 → Appended s 0 (line_of t) s' r
+pub alone : {s s' : List ℕ} {r : ℕ} (t u : Told) → t ≡ u → length (seen t).2 ≡ 32 → length s ≡ 1024 → Appended s 0 (line_of t) s' r
     → (s' ≡ sets s 0 (line_of u)) × ((r ≡ length (line_of u)) × (r ≤ 1024))
 alone {s} {s'} {r} t u e n k a =
     let h = a.held (omega (arith, line_length t n)) in

@@ -8,12 +8,15 @@ ghost use Rattle.model.specs.Check.{shape_found};
 ghost use Rattle.model.specs.Turn.{decimal, space};
 ghost use Rattle.line.specs.Append.{Appended};
 ghost use Rattle.loitsupar.specs.Public.{told_of};
-ghost use Rattle.tell_line.specs.Shapes.{spaced as spaced_of, line_of};
+ghost use Rattle.tell_line.specs.Shapes.{spaced as spaced_of, seen as seen_of, line_of};
 
+use checker::tell::Found;
 use code::part::part;
 use line::line::number;
 use line::numbers::{decimal, put};
-use loitsupar::telling::{Told, tell};
+use loaded::Fault;
+use loitsupar::numbered::numbered;
+use loitsupar::telling::tell;
 
 // 1 where it holds, else 0.
 fn flag(holds: bool) -> usize
@@ -50,19 +53,40 @@ fn types_text(out: &mut [u8], at: usize, types: &[u8; 32], depth: usize) -> usiz
     spaced(out, at, part(types, 0, depth))
 }
 
-// The line from the start of `out` on: the fault, whether an instruction starts there, the depth, and as many types as that.
-fn write_told(told: Told, out: &mut [u8]) -> usize
-    ensures { Appended out.old 0 (line_of told) out.new result }
+// The types of a shape.
+fn types_of(found: &Found) -> [u8; 32]
+    ensures { (result ≡ found.now.types) × (length result ≡ 32) }
 {
-    let fault = told.fault;
-    let found = told.found;
-    let types = found.types;
-    let a = number(out, 0, fault.number as usize);
+    found.types
+}
+
+// Whether an instruction starts there, its depth and the types, the bottom first: nothing behind a fault.
+fn seen(told: &Result<Option<Found>, Fault>) -> (bool, usize, [u8; 32])
+    ensures is { result ≡ seen_of told.now }
+    ensures long { length (seen_of told.now).2 ≡ 32 }
+{
+    match told {
+        Ok(shape) => match shape {
+            Some(found) => (true, found.depth, types_of(found)),
+            None => (false, 0, [0u8; 32]),
+        },
+        Err(_) => (false, 0, [0u8; 32]),
+    }
+}
+
+// The line from the start of `out` on: the fault, whether an instruction starts there, the depth, and as many types as that.
+fn write_told(told: &Result<Option<Found>, Fault>, out: &mut [u8]) -> usize
+    ensures text { Appended out.old 0 (line_of told.now) out.new result }
+    ensures long { length (seen_of told.now).2 ≡ 32 }
+{
+    let fault = numbered(told);
+    let (starts, depth, types) = seen(told);
+    let a = number(out, 0, usize::from(fault.number));
     let b = number(out, a, fault.method);
     let c = number(out, b, fault.offset);
-    let d = number(out, c, flag(found.starts));
-    let e = decimal(out, d, found.depth as u64);
-    let f = types_text(out, e, &types, found.depth);
+    let d = number(out, c, flag(starts));
+    let e = decimal(out, d, depth as u64);
+    let f = types_text(out, e, &types, depth);
     put(out, f, b'\n')
 }
 
@@ -73,5 +97,5 @@ pub fn line(tables: &[u8], code: &[u8], row: usize, offset: usize, out: &mut [u8
     ensures room { result ≤ 1024 }
 {
     let told = tell(tables, code, row, offset);
-    write_told(told, out)
+    write_told(&told, out)
 }

@@ -18,11 +18,11 @@ use Rattle.model.specs.Turn.{Line, fault_line, ended_line, line_of, print, turn_
 use Rattle.loaded.specs.Holds.{Holds}
 use Rattle.loaded.specs.declared.Fault.{Fault}
 use Rattle.loaded.specs.declared.Loaded.{Loaded}
-use Rattle.loader.specs.Answers as Load
+use Rattle.std.specs.Prelude.{Result, Ok, Err, ⊤}
 use Rattle.state.specs.Order.{Fine}
 use Rattle.faithful.proofs.Constants.{Bytes}
 use Rattle.checker.specs.Bounded.{Bounded}
-use Rattle.checker.specs.Answers.{Answers, fault_of, no_fault}
+use Rattle.checker.specs.Answers.{Answers, fault_of}
 use Rattle.line.specs.Append.{Alone}
 use Rattle.line.specs.Values.{value_of}
 use Rattle.line.specs.Announced.{answered}
@@ -31,7 +31,7 @@ use Rattle.runner.specs.Answers.{told, refused_by}
 use Rattle.runner.specs.Answers as Ran
 use Rattle.runner.specs.declared.Ended.{Ended}
 use Rattle.loitsupar.specs.Public.{checked}
-use Rattle.loitsupar.proofs.Answered.{refused, stands, not_checked, checks, runs}
+use Rattle.loitsupar.proofs.Answered.{Says, refused, stands, not_checked, checks, is_checked, runs}
 
 abbrev line : ℕ → ℕ → ℕ → ℕ → Option Value → Line
 line n m o s v = record { ending = n; method = m; offset = o; steps = s; value = v }
@@ -74,47 +74,36 @@ module _ (tables code : List ℕ) where
       go (ok M) = refl
 
   -- a fault of either, loading or the check
-  not_passed : (a : Fault) → (a.number ≡ 0 → ⊥) → a ≡ checked (check tables code) → line_of_fault a ≡ line_of (play tables code)
-  unfolding checked no_fault fault_of line_of fault_line ◌>>=◌
-  not_passed a n e = rw plays (go (check tables code) e)
+  not_passed : (a : Fault) → Err a ≡ checked (check tables code) → line_of_fault a ≡ line_of (play tables code)
+  unfolding checked fault_of line_of fault_line ◌>>=◌
+  not_passed a e = rw plays (go (check tables code) e)
     where
-      go : (A : Answer Model.Fault (List Shapes)) → a ≡ checked A → line_of_fault a ≡ line_of (A >>= λ _. blame (fault_in 0) (run tables code [] turn_budget))
-      go (bad f) q = ap line_of_fault q
-      go (ok l) q = absurd (n (ap (λ (x : Fault). x.number) q))
+      go : (A : Answer Model.Fault (List Shapes)) → Err a ≡ checked A → line_of_fault a ≡ line_of (A >>= λ _. blame (fault_in 0) (run tables code [] turn_budget))
+      go (bad f) q = let z : a ≡ fault_of f = cc in ap line_of_fault z
+      go (ok l) q = absurd cc
 
   -- the run of a module that passes
-  passed : (a : Fault) → a.number ≡ 0 → Answers (check tables code) a → (x : Ended) → Ran.Answers (run tables code [] turn_budget) x
-      → line_of_run x ≡ line_of (play tables code)
+  passed : Answers (check tables code) (Ok tt) → (x : Ended) → Ran.Answers (run tables code [] turn_budget) x → line_of_run x ≡ line_of (play tables code)
   unfolding Answers fault_of ◌>>=◌
-  passed a z h x ran = rw plays (go (check tables code) h)
+  passed h x ran = rw plays (go (check tables code) h)
     where
-      go : (A : Answer Model.Fault (List Shapes)) → Answers A a → line_of_run x ≡ line_of (A >>= λ _. blame (fault_in 0) (run tables code [] turn_budget))
-      go (bad f) q = let k : 10 < f.number = q.1 in let e : f.number ≡ 0 = sym (ap (λ (y : Fault). y.number) q.0) ∙ z in absurd (omega arith)
+      go : (A : Answer Model.Fault (List Shapes)) → Answers A (Ok tt) → line_of_run x ≡ line_of (A >>= λ _. blame (fault_in 0) (run tables code [] turn_budget))
+      go (bad f) q = let z : ◌≡◌ {A = Result ⊤ Fault} (Ok tt) (Err (fault_of f)) = q.0 in absurd cc
       go (ok l) q = run_told _ x ran
 
--- what the check answers, as one fault
-as_checked : (A : Answer Model.Fault (List Shapes)) (a : Fault) → Answers A a → a ≡ checked A
-unfolding Answers checked
-as_checked (bad f) a h = h.0
-as_checked (ok l) a h = h
-
-module _ (tables code : List ℕ) (a : Fault) (bare : Type 0) (L : Loaded) (says : Load.Answers (load tables code) a bare (λ M. Holds M code L)) where
   -- a refusal of loading
-  pub refusal_line : (a.number ≡ 0 → ⊥) → line_of_fault a ≡ line_of (play tables code)
-  refusal_line n = not_passed tables code a n (not_checked (refused a bare L says n))
+  pub refusal_line : (a : Fault) → Says tables code (Err a) → line_of_fault a ≡ line_of (play tables code)
+  refusal_line a says = not_passed a (not_checked (refused a says))
 
-  module _ (z : a.number ≡ 0) (x : Fault) (checks-it : (M : Module) → Bounded M → Holds M code L → Answers (check_module M) x) where
-    found : Answers (check tables code) x
-    found = checks (stands a bare L says z) x checks-it
-
+  module _ (L : Loaded) (says : Says tables code (Ok L)) where
     -- a fault of the check
-    pub fault_line_lem : (x.number ≡ 0 → ⊥) → line_of_fault x ≡ line_of (play tables code)
-    fault_line_lem n = not_passed tables code x n (as_checked (check tables code) x found)
+    pub fault_line_lem : (a : Fault) → ((M : Module) → Bounded M → Holds M code L → Answers (check_module M) (Err a)) → line_of_fault a ≡ line_of (play tables code)
+    fault_line_lem a h = not_passed a (is_checked tables code (Err a) (checks (stands L says) (Err a) h))
 
     -- the end of the run
-    pub run_line : x.number ≡ 0 → Bytes code → (r : Ended) → ((M : Module) → Fine M → Holds M code L → Ran.Answers (run_module M [] turn_budget) r)
-        → line_of_run r ≡ line_of (play tables code)
-    run_line p b r runs-it = passed tables code x p found r (runs (stands a bare L says z) b [] turn_budget r runs-it)
+    pub run_line : ((M : Module) → Bounded M → Holds M code L → Answers (check_module M) (Ok tt)) → Bytes code → (r : Ended)
+        → ((M : Module) → Fine M → Holds M code L → Ran.Answers (run_module M [] turn_budget) r) → line_of_run r ≡ line_of (play tables code)
+    run_line h b r runs_it = passed (checks (stands L says) (Ok tt) h) r (runs (stands L says) b [] turn_budget r runs_it)
 
 -- ---- What the input announces
 

@@ -10,7 +10,7 @@ ghost use Rattle.line.specs.Append.{Alone};
 use checker::check;
 use line::input::{Input, announced, code_of, tables_of};
 use line::line::{Value, line};
-use loader::load_into;
+use loader::load;
 use runner::run;
 
 // The steps of a run at most.
@@ -33,45 +33,24 @@ fn fault_line(number: u8, method: usize, offset: usize, out: &mut [u8; 128]) -> 
 fn played(tables: &[u8], code: &[u8], out: &mut [u8; 128]) -> usize
     ensures { Alone out.old (print (line_of (play tables.now code.now))) out.new result }
 {
-    let mut parents = [0u8; 33];
-    let mut initialisers = [0u8; 33];
-    let mut fields = [0u8; 516];
-    let mut methods = [0u8; 4128];
-    let mut parts = [0usize; 258];
-    let l = load_into(
-        tables,
-        code,
-        &mut parents,
-        &mut initialisers,
-        &mut fields,
-        &mut methods,
-        &mut parts,
-    );
-    let refusal = l.fault;
-    if refusal.number != 0 {
-        return fault_line(refusal.number, refusal.method, refusal.offset, out);
-    }
-    let counts = l.counts;
-    let fault = check(counts, &parents, &fields, &methods, &parts, code);
-    if fault.number != 0 {
+    let loaded = match load(tables, code) {
+        Ok(loaded) => loaded,
+        Err(refusal) => return fault_line(refusal.number, refusal.method, refusal.offset, out),
+    };
+    if let Err(fault) = check(&loaded, code) {
         return fault_line(fault.number, fault.method, fault.offset, out);
     }
     let none = [0u64; 0];
-    let e = run(
-        counts,
-        &parents,
-        &initialisers,
-        &fields,
-        &methods,
-        &parts,
-        code,
-        &none,
-        BUDGET,
-    );
-    let number = e.end.number as usize;
-    let steps = e.steps as usize;
-    let value = e.value;
-    line(number, e.end.method, e.end.offset, steps, value, out)
+    let e = run(&loaded, code, &none, BUDGET);
+    let number = usize::from(e.end.number);
+    line(
+        number,
+        e.end.method,
+        e.end.offset,
+        e.steps as usize,
+        e.value,
+        out,
+    )
 }
 
 // The line for an input, from the start of `out` on, and how long it is; what lay behind it stays.

@@ -17,12 +17,10 @@ returns-then-state-lt-STATE c = let g = c.args in
 
 pub returns : goal.returns
 unfolding answer_cells
-returns c = let stated = c in
-    let told = stated in
-    let tested = told in
-    let g = tested.args in
-    let h = both_enough _ g.answer.now _ g.state.now tested.if-answer-lt-ANSWER.false tested.if-state-lt-STATE.false in
-    let q = ended _ _ told.run-s.ensures in
-    let a = told.lay_answer.ensures ∙ ap (λ (e : Ended). over (answer_cells e) g.answer.now) q in
+returns c =
+    let g = c.args in
+    let h = both_enough _ g.answer.now _ g.state.now c.if-answer-lt-ANSWER.false c.if-state-lt-STATE.false in
+    let q = ended _ _ c.run-summary.ensures in
+    let a = c.lay_answer.ensures ∙ ap (λ (e : Ended). over (answer_cells e) g.answer.now) q in
     let s = c.lay_state.ensures ∙ ap (λ (e : Ended). over (state_cells e.state) g.state.now) q in
     record { value = done h; answer_after = as_written h _ _ _ a; state_after = as_written h _ _ _ s }

@@ -5,13 +5,10 @@ use Rattle.tell_line.proofs.write_told.Goals as goal
 
 pub returns : goal.returns
 returns c =
-    let types = c in
-    let depth = types in
-    let starts = depth in
-    let offset = starts in
-    let method = offset in
-    let number = method in
-    let told = number.args.told in
-    same (in_order told _ starts.flag.ensures)
-    (then (then (then (then (then (then number.number-a.ensures method.number-b.ensures) offset.number-c.ensures) starts.number-d.ensures)
-    depth.decimal-e.ensures) types.types_text-f.ensures) c.put.ensures)
+    record {
+      text =
+          same (in_order c.args.told.now c.numbered-fault.ensures c.seen-starts.ensures.is c.from.ensures c.flag.ensures)
+          (then (then (then (then (then (then c.number-a.ensures c.number-b.ensures) c.number-c.ensures) c.number-d.ensures)
+          c.decimal-e.ensures) c.types_text-f.ensures) c.put.ensures);
+      long = c.seen-starts.ensures.long;
+    }

@@ -17,4 +17,5 @@ pub returns : goal.returns
 unfolding only_if pick
 returns c = record {
   state_is = rw (← (c.if-count-from.false ∙ c.from.ensures), copied c.args.given.now c.args.state.now.cells (omega arith), c.copy_from_slice.ensures.after);
-  as_model = λ M code H fine. let_in M code _ c.args.given.now H fine (omega arith) (c.if-count-from.false ∙ c.from.ensures) (record { word = λ j. c.type_inv.given j }) _ (omega arith) (sym c.takes_all.ensures ∙ c.if-not-takes_all.false) }
+  as_model = λ M code H fine. let_in M code _ c.args.given.now H fine (omega arith) (c.if-count-from.false ∙ c.from.ensures) (record { word = λ j. c.type_inv.given j }) _ (omega arith) (sym c.takes_all.ensures ∙ c.if-not-takes_all.false);
+}

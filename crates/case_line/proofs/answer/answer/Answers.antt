@@ -1,33 +1,17 @@
 -- `answer` meets its contract.
-use mathlib.Core.Path.{refl}
 use Rattle.loitsupar.proofs.Answered.{stands, ready}
 use Rattle.case_line.proofs.Lines.{refused_load, loaded}
 use Rattle.case_line.proofs.answer.answer.Goals as goal
 
-pub load_into-l-requires : goal.load_into-l-requires
-load_into-l-requires c = record { parents_is = refl; initialisers_is = refl; fields_is = refl; methods_is = refl; parts_is = refl }
-
-pub returns-then-fault-ne0 : goal.returns-then-fault-ne0
-returns-then-fault-ne0 c =
-    let z = c in
-    let y = z in
-    let t = y in
-    let a = t.args in
-    refused_load a.tables.now a.code.now a.arguments.now a.budget _ _ _ t.load_into-l.ensures y.load_part-a.ensures
-    z.if-fault-ne0.true z.refused_rest.ensures
-
 pub loaded_rest-requires : goal.loaded_rest-requires
-loaded_rest-requires c =
-    let t = c in
-    ready (stands _ _ _ t.load_into-l.ensures c.if-fault-ne0.false)
-    (λ i. (t.type_inv.code i).fits)
+loaded_rest-requires c = ready (stands _ (rw c.in-Ok.is at c.load-answer.ensures)) (λ i. (c.type_inv.code i).fits)
 
-pub returns : goal.returns
-returns c =
-    let z = c in
-    let y = z in
-    let t = y in
-    let a = t.args in
-    loaded a.tables.now a.code.now a.arguments.now a.budget _ _ _ t.load_into-l.ensures y.load_part-a.ensures
-    z.if-fault-ne0.false
-    (λ i. (t.type_inv.code i).fits) z.loaded_rest.ensures
+pub returns-in-Ok : goal.returns-in-Ok
+returns-in-Ok c =
+    loaded _ _ _ _ c.load-answer.result (rw c.numbered.ensures at c.load_part-a.ensures) _ c.in-Ok.is (rw c.in-Ok.is at c.load-answer.ensures)
+    (λ i. (c.type_inv.code i).fits) c.loaded_rest.ensures
+
+pub returns-in-Err : goal.returns-in-Err
+returns-in-Err c =
+    refused_load _ _ _ _ c.load-answer.result (rw c.numbered.ensures at c.load_part-a.ensures) _ c.in-Err.is (rw c.in-Err.is at c.load-answer.ensures)
+    c.refused_rest.ensures

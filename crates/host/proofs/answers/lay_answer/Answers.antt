@@ -8,7 +8,7 @@ use Rattle.host.proofs.answers.lay_answer.Goals as goal
 pub bounds-out-4 : goal.bounds-out-4
 bounds-out-4 c =
     let laid = c in
-    omega (arith, length-set laid.lay_fault.new.out 3 laid.args.steps)
+    omega (arith, length-set laid.lay_fault.new.out 3 laid.args.summary.steps)
 
 pub returns : goal.returns
 unfolding told_cells fault_cells

@@ -12,4 +12,4 @@ pub returns : goal.returns
 unfolding fault_cells
 returns c =
     let g = c.args in
-    rw c.wide.ensures (three_laid g.out.now g.f.number g.f.method g.f.offset c.requires)
+    rw c.from.ensures (three_laid g.out.now g.f.number g.f.method g.f.offset c.requires)

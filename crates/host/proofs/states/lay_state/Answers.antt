@@ -10,9 +10,6 @@ loop-i-init c = none_laid c.requires
 pub loop-i-preserved : goal.loop-i-preserved
 loop-i-preserved c = one_more (search rules) c.state_cell.ensures c.loop-i.invariant
 
-pub shape_of-out : goal.shape_of-out
-shape_of-out c = c.loop-i.invariant.long
-
 pub returns : goal.returns
 unfolding state_cells
 returns c = all_laid c.loop-i-test.false c.loop-i.invariant

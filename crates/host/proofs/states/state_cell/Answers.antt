@@ -9,19 +9,19 @@ returns-then-i-lt-KINDS c = in_live _ _ c.if-i-lt-KINDS.true
 pub returns-then-i-lt-STACKS : goal.returns-then-i-lt-STACKS
 returns-then-i-lt-STACKS c =
     let tested = c in
-    c.wide.ensures ∙ in_kinds _ _ _ c.place-p.ensures.0 tested.if-i-lt-KINDS.false tested.if-i-lt-STACKS.true
+    c.from.ensures ∙ in_kinds _ _ _ c.place.ensures.0 tested.if-i-lt-KINDS.false tested.if-i-lt-STACKS.true
 
 pub returns-then-i-lt-STATICS : goal.returns-then-i-lt-STATICS
-returns-then-i-lt-STATICS c = in_frames _ _ _ c.frame_place-p.ensures.0 c.if-i-lt-STACKS.false c.if-i-lt-STATICS.true
+returns-then-i-lt-STATICS c = in_frames _ _ _ c.frame_place.ensures.0 c.if-i-lt-STACKS.false c.if-i-lt-STATICS.true
 
 pub returns-then-i-lt-MARKS : goal.returns-then-i-lt-MARKS
 returns-then-i-lt-MARKS c = in_statics _ _ c.if-i-lt-STATICS.false c.if-i-lt-MARKS.true
 
 pub returns-then-i-lt-CLASSES : goal.returns-then-i-lt-CLASSES
-returns-then-i-lt-CLASSES c = c.wide-then-i-lt-CLASSES.ensures ∙ in_marks _ _ c.if-i-lt-MARKS.false c.if-i-lt-CLASSES.true
+returns-then-i-lt-CLASSES c = c.from-then-i-lt-CLASSES.ensures ∙ in_marks _ _ c.if-i-lt-MARKS.false c.if-i-lt-CLASSES.true
 
 pub returns-then-i-lt-HEAP : goal.returns-then-i-lt-HEAP
-returns-then-i-lt-HEAP c = c.wide-then-i-lt-HEAP.ensures ∙ in_classes _ _ c.if-i-lt-CLASSES.false c.if-i-lt-HEAP.true
+returns-then-i-lt-HEAP c = c.from-then-i-lt-HEAP.ensures ∙ in_classes _ _ c.if-i-lt-CLASSES.false c.if-i-lt-HEAP.true
 
 pub returns : goal.returns
 returns c = in_heap _ _ c.if-i-lt-HEAP.false

@@ -1,16 +1,12 @@
 -- `checking::check` meets its contract.
-use mathlib.Core.Path.{refl}
+use Rattle.std.proofs.lemmas.Result.{err_from_is_err_and}
 use Rattle.loitsupar.proofs.Answered.{refused, stands, not_checked, checks, is_checked}
 use Rattle.loitsupar.proofs.checking.check.Goals as goal
 
-pub load_into-l-requires : goal.load_into-l-requires
-load_into-l-requires c = record { parents_is = refl; initialisers_is = refl; fields_is = refl; methods_is = refl; parts_is = refl }
-
-pub returns-then-fault-ne0 : goal.returns-then-fault-ne0
-returns-then-fault-ne0 c = not_checked (refused _ _ _ c.load_into-l.ensures c.if-fault-ne0.true)
+pub returns-in_err-loaded : goal.returns-in_err-loaded
+returns-in_err-loaded c =
+    let p = err_from_is_err_and c.from_residual.result c.from_residual.ensures.1 in
+    rw (p.1, p.2) (not_checked (refused _ c.in_err-loaded.ensures))
 
 pub returns : goal.returns
-returns c =
-    let fine = c in
-    let s = stands _ _ _ fine.load_into-l.ensures fine.if-fault-ne0.false in
-    is_checked _ _ _ (checks s _ (λ M b h. c.check.ensures M _ b h))
+returns c = is_checked _ _ _ (checks (stands _ c.in_ok-loaded.ensures) _ c.check.ensures)

@@ -3,4 +3,4 @@ use Rattle.runner.proofs.Answering.{the_same}
 use Rattle.loitsupar.proofs.running.run.Goals as goal
 
 pub returns : goal.returns
-returns c = let t = c in the_same _ c.with_state.ensures t.run-s.ensures
+returns c = the_same _ c.with_state.ensures c.run-summary.ensures
