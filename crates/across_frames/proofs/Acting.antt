@@ -17,6 +17,8 @@ use Rattle.state.specs.declared.Stay.{Stay}
 use Rattle.state.specs.View.{Work}
 use Rattle.state.specs.Work.{Tables, Went, is_token, row_of_token, is_method, ret_w, plain_w, act_w, acts_w}
 use Rattle.state.specs.Meets.{Names}
+use Rattle.across_frames.specs.declared.calls.Way.{Way}
+use Rattle.across_frames.specs.declared.calls.Way.TheVariants.{Call, Callvirt}
 use Rattle.across_frames.specs.Lent.{Lends, opcode_of, named_sort, named_row, named_w, newobj_w}
 
 -- ---- The opcodes
@@ -27,9 +29,20 @@ ins_by true by = newobj
 ins_by false true = callvirt
 ins_by false false = call
 
+-- the instruction that calls
+abbrev pub way_of : Bool → Way
+way_of true = Callvirt
+way_of false = Call
+
 -- the instruction of a number that is not ret's
 abbrev pub ins_of : ℕ → ℕ → Ins
 ins_of next = ins_by (eqb next 6) (eqb next 5)
+
+pub way_virtual : {next : ℕ} {way : Way} → next ≡ 5 → way ≡ Callvirt → way ≡ way_of (eqb next 5)
+way_virtual e q = rw (eq-eqb _ _ e) q
+
+pub way_plain : {next : ℕ} {way : Way} → (next ≡ 5 → ⊥) → way ≡ Call → way ≡ way_of (eqb next 5)
+way_plain n q = rw (ne_eqb _ _ n) q
 
 form_ret : form_of instructions 0x2A ≡ some (bare (plain ret))
 unfolding form_of instructions loads operators objects branches ◌is◌ op un const pick
@@ -104,7 +117,7 @@ module _ (P : Tables) (m : ℕ) (y : Stay) (c : Work) (o : ℕ) {t n count : ℕ
     unfolding act_w ins_by is_method newobj_w
     new_by by = simp (q.same_count, q.same_methods, q.same_initialisers, q.same_ancestors, present, row_is)
 
-    call_by : (by : Bool) → act_w P m y c (ins_by false by t) o ≡ named_w by methods initialisers ancestors chosen y c (n + 1)
+    call_by : (by : Bool) → act_w P m y c (ins_by false by t) o ≡ named_w (way_of by) methods initialisers ancestors chosen y c (n + 1)
     unfolding act_w ins_by is_method named_w named_sort named_row
     call_by true = simp (q.same_count, q.same_methods, q.same_initialisers, q.same_ancestors, q.same_chosen, present, row_is)
     call_by false = simp (q.same_count, q.same_methods, q.same_initialisers, q.same_ancestors, present, row_is)
@@ -112,5 +125,5 @@ module _ (P : Tables) (m : ℕ) (y : Stay) (c : Work) (o : ℕ) {t n count : ℕ
     pub new_named : (next : ℕ) → next ≡ 6 → act_w P m y c (ins_of next t) o ≡ newobj_w methods initialisers ancestors y c (n + 1)
     new_named next e = rw (eq-eqb _ _ e) (new_by (eqb next 5))
 
-    pub call_named : (next : ℕ) → (next ≡ 6 → ⊥) → act_w P m y c (ins_of next t) o ≡ named_w (eqb next 5) methods initialisers ancestors chosen y c (n + 1)
-    call_named next e = rw (ne_eqb _ _ e) (call_by (eqb next 5))
+    pub call_named : (next : ℕ) → (next ≡ 6 → ⊥) → {way : Way} → way ≡ way_of (eqb next 5) → act_w P m y c (ins_of next t) o ≡ named_w way methods initialisers ancestors chosen y c (n + 1)
+    call_named next e q = rw (q, ne_eqb _ _ e) (call_by (eqb next 5))

@@ -3,17 +3,16 @@ use Prim.Native.Nat.{ℕ, ◌+◌, ◌-◌, ◌*◌, ◌≤◌, ◌<◌}
 use mathlib.Core.Path.{◌≡◌}
 use mathlib.Core.Bool.{Bool, true, false}
 use mathlib.Core.List.{List}
-use native.Mathlib.Omega.{arith}
 use lib.ListN.{get_or}
-use lib.Dec.{leb, eqb}
-use borrow.Author.Tests.{lt-ltb, le-ltb, le-leb, lt-leb, eq-eqb, ne_eqb}
+use borrow.Author.Tests.{lt-ltb, le-ltb, eq-eqb, ne_eqb}
 use Rattle.model.specs.Answer.{Answer, bad, ok, ◌>>=◌, guard, pick}
-use Rattle.model.specs.Loading.{within}
 use Rattle.loaded.specs.Holds.{method_cell}
 use Rattle.state.specs.declared.Stay.{Stay}
 use Rattle.state.specs.View.{Work}
 use Rattle.state.specs.Work.{Went, runs, with_cells, with_marks, bits_at, place_of, starting_w, copy_of, fours, entered, room_above, due_of_byte, taking_w, invoke_w, call_row, chosen_row, callvirt_row}
 use Rattle.across_frames.specs.Lent.{named_sort, named_row, named_w, taken_by}
+use Rattle.across_frames.specs.declared.calls.Way.{Way}
+use Rattle.across_frames.specs.declared.calls.Way.TheVariants.{Call, Callvirt}
 
 -- ---- The frame of a called method
 
@@ -37,79 +36,51 @@ module _ (methods : List ℕ) (c : Work) (r n : ℕ) (marks : List ℕ) where
   unfolding room_above guard ◌>>=◌
   invoke_goes h q = simp (lt-ltb _ _ h, q)
 
--- ---- The method that is taken
+-- ---- The method that callvirt takes
 
-module _ (methods chosen classes : List ℕ) (object r : ℕ) (there : 1 ≤ r) (then : ℕ → Answer ℕ Went) where
-  abbrev said : Bool → Answer ℕ Went
-  said by = taken_by by methods chosen classes object r then
+module _ (methods chosen classes : List ℕ) (object r : ℕ) (then : ℕ → Answer ℕ Went) where
+  abbrev said : Answer ℕ Went
+  said = taken_by Callvirt methods chosen classes object r then
 
-  abbrev Takes : Bool → ℕ → Type 0
-  Takes by w = said by ≡ pick (eqb w 0) (bad 34) (then w)
+  pub taken_null : object ≡ 0 → said ≡ bad 34
+  unfolding taken_by guard ◌>>=◌
+  taken_null h = simp (eq-eqb _ _ h)
 
-  pub taken_named : {by : Bool} → by ≡ false → Takes by r
-  unfolding taken_by pick
-  taken_named e = rw e (simp (ne_eqb r 0 (λ z. omega arith)))
+  module _ (some : object ≡ 0 → ⊥) where
+    pub taken_bare : (method_cell methods r 24 ≡ 2 → ⊥) → said ≡ then r
+    unfolding taken_by chosen_row pick guard ◌>>=◌
+    taken_bare h = simp (ne_eqb _ _ some, ne_eqb _ _ h)
 
-  module _ {by : Bool} (e : by ≡ true) where
-    pub taken_null : object ≡ 0 → Takes by 0
-    unfolding taken_by pick guard ◌>>=◌
-    taken_null h = rw e (simp (eq-eqb _ _ h))
-
-    module _ (some : object ≡ 0 → ⊥) where
-      pub taken_bare : (method_cell methods r 24 ≡ 2 → ⊥) → Takes by r
+    -- k is the object's class and q the method's root
+    module _ (h : method_cell methods r 24 ≡ 2) {k q w : ℕ} (class : k ≡ get_or classes (place_of object) 0) (root : q ≡ method_cell methods r 30) (at : w ≡ get_or chosen (k * 129 + q) 0) where
+      pub taken_none : w ≡ 0 → said ≡ then r
       unfolding taken_by chosen_row pick guard ◌>>=◌
-      taken_bare h = rw e (simp (ne_eqb _ _ some, ne_eqb _ _ h, ne_eqb r 0 (λ z. omega arith)))
+      taken_none z = rw (← class, ← root) (simp (ne_eqb _ _ some, eq-eqb _ _ h, ← at, eq-eqb _ _ z))
 
-      -- k is the object's class and q the method's root
-      module _ (h : method_cell methods r 24 ≡ 2) {k q w : ℕ} (class : k ≡ get_or classes (place_of object) 0) (root : q ≡ method_cell methods r 30) (at : w ≡ get_or chosen (k * 129 + q) 0) where
-        pub taken_none : w ≡ 0 → Takes by r
-        unfolding taken_by chosen_row pick guard ◌>>=◌
-        taken_none z = rw (e, ← class, ← root) (simp (ne_eqb _ _ some, eq-eqb _ _ h, ← at, eq-eqb _ _ z, ne_eqb r 0 (λ z. omega arith)))
-
-        pub taken_over : (w ≡ 0 → ⊥) → Takes by w
-        unfolding taken_by chosen_row pick guard ◌>>=◌
-        taken_over z = rw (e, ← class, ← root) (simp (ne_eqb _ _ some, eq-eqb _ _ h, ← at, ne_eqb _ _ z))
-
--- ---- The sorts
-
-pub sort_initialiser : (by : Bool) (s : ℕ) → s ≡ 4 → false ≡ named_sort by s
-unfolding named_sort within
-sort_initialiser true s h = rw h
-sort_initialiser false s h = rw h
-
-pub sort_call : {by : Bool} (s : ℕ) → (s ≡ 4 → ⊥) → by ≡ false → true ≡ named_sort by s
-unfolding named_sort
-sort_call s n e = rw e (simp (ne_eqb _ _ n))
-
-module _ {by : Bool} (s : ℕ) (e : by ≡ true) where
-  pub sort_static : s < 1 → false ≡ named_sort by s
-  unfolding named_sort within
-  sort_static h = rw e (simp (lt-leb _ _ h))
-
-  pub sort_instance : 1 ≤ s → leb s 2 ≡ named_sort by s
-  unfolding named_sort within
-  sort_instance h = rw e (simp (le-leb _ _ h))
+      pub taken_over : (w ≡ 0 → ⊥) → said ≡ then w
+      unfolding taken_by chosen_row pick guard ◌>>=◌
+      taken_over z = rw (← class, ← root) (simp (ne_eqb _ _ some, eq-eqb _ _ h, ← at, ne_eqb _ _ z))
 
 -- ---- call and callvirt
 
 module _ (methods initialisers ancestors chosen : List ℕ) (y : Stay) (c : Work) (r : ℕ) {b : Bool} where
-  pub named_none : (by : Bool) → b ≡ named_sort by (method_cell methods r 24) → b ≡ false → named_w by methods initialisers ancestors chosen y c r ≡ bad 42
+  pub named_none : (by : Way) → b ≡ named_sort by (method_cell methods r 24) → b ≡ false → named_w by methods initialisers ancestors chosen y c r ≡ bad 42
   unfolding named_w guard ◌>>=◌
   named_none by q h = simp (← q, h)
 
-  pub named_takes : (by : Bool) → b ≡ named_sort by (method_cell methods r 24) → b ≡ true → {w more : ℕ} → w ≡ method_cell methods r 28 → more ≡ due_of_byte (method_cell methods r 26)
-      → named_w by methods initialisers ancestors chosen y c r
-      ≡ (taking_w methods ancestors y c r w 0 more >>= λ _. taken_by by methods chosen c.classes (bits_at c (c.regs.sp - w)) r (λ q. invoke_w methods initialisers c q w))
+  pub named_takes : (by : Way) → b ≡ named_sort by (method_cell methods r 24) → b ≡ true → {w more d : ℕ} → w ≡ method_cell methods r 28 → more ≡ due_of_byte (method_cell methods r 26)
+      → d ≡ c.regs.sp - w → named_w by methods initialisers ancestors chosen y c r
+      ≡ (taking_w methods ancestors y c r w 0 more >>= λ _. taken_by by methods chosen c.classes (bits_at c d) r (λ q. invoke_w methods initialisers c q w))
   unfolding named_w named_row call_row callvirt_row taken_by guard ◌>>=◌
-  named_takes true q h e f = simp (← q, h, ← e, ← f)
-  named_takes false q h e f = simp (← q, h, ← e, ← f)
+  named_takes Callvirt q h e f g = rw g (simp (← q, h, ← e, ← f))
+  named_takes Call q h e f g = simp (← q, h, ← e, ← f)
 
--- what refuses the arguments
-module _ {taking : Answer ℕ (Unit {0})} {e : ℕ} (then : Unit {0} → Answer ℕ Went) (q : taking ≡ pick (eqb e 0) (ok tt) (bad e)) where
-  pub refused : (e ≡ 0 → ⊥) → (taking >>= then) ≡ bad e
-  unfolding pick ◌>>=◌
-  refused n = simp (q, ne_eqb _ _ n)
+-- what the arguments came to
+module _ {taking : Answer ℕ (Unit {0})} (then : Unit {0} → Answer ℕ Went) where
+  pub refused : {n : ℕ} → taking ≡ bad n → (taking >>= then) ≡ bad n
+  unfolding ◌>>=◌
+  refused q = rw q
 
-  pub accepted : e ≡ 0 → (taking >>= then) ≡ then tt
-  unfolding pick ◌>>=◌
-  accepted z = simp (q, eq-eqb _ _ z)
+  pub accepted : taking ≡ ok tt → (taking >>= then) ≡ then tt
+  unfolding ◌>>=◌
+  accepted q = rw q

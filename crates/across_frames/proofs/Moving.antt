@@ -15,14 +15,30 @@ use Rattle.state.specs.declared.Stay.{Stay}
 use Rattle.state.specs.View.{Regs, Work}
 use Rattle.state.specs.Work.{Went, runs, over, waits, with_regs, with_cells, with_marks, copy_of, fours, entered, room_above, start_w, starting_w}
 use Rattle.state.specs.Meets.{answer, moves, Leaves}
-use Rattle.across_frames.specs.Lent.{regs_at, stays_at, Framed, InFrame, Landed}
+use Rattle.across_frames.specs.declared.ending.Ending.{Ending}
+use Rattle.across_frames.specs.declared.ending.Ending.TheVariants.{NoObject, FramesUsed, ObjectsUsed, Cut, NoSuch, TooFew, NoRoom, Unfit}
+use Rattle.across_frames.specs.declared.registers.Registers.{Registers}
+use Rattle.across_frames.specs.Lent.{regs_at, stays_in, number_of, Framed, Standing, Landed}
 
 -- ---- The answer
 
-module _ {how first : ℕ} {value : Option Value} {g : Regs} {before : Work} {said : Answer ℕ Went} where
-  pub ends : 2 < how → said ≡ bad how → Leaves how first value (with_regs before g) before said
+-- no number of an ending says how a step goes on
+pub high : (e : Ending) → 2 < number_of e
+high NoObject = omega arith
+high FramesUsed = omega arith
+high ObjectsUsed = omega arith
+high Cut = omega arith
+high NoSuch = omega arith
+high TooFew = omega arith
+high NoRoom = omega arith
+high Unfit = omega arith
+
+module _ {first : ℕ} {value : Option Value} {g : Regs} {before : Work} {said : Answer ℕ Went} where
+  pub ends : (e : Ending) → said ≡ bad (number_of e) → Leaves (number_of e) first value (with_regs before g) before said
   unfolding moves answer pick
-  ends h s = record { says = simp (ne_eqb how 1 (λ z. omega arith), ne_eqb how 0 (λ z. omega arith), ne_eqb how 2 (λ z. omega arith), s); kept = λ _. refl }
+  ends e s =
+      let h : 2 < number_of e = high e in
+      record { says = simp (ne_eqb (number_of e) 1 (λ z. omega arith), ne_eqb (number_of e) 0 (λ z. omega arith), ne_eqb (number_of e) 2 (λ z. omega arith), s); kept = λ _. refl }
 
 module _ {first : ℕ} {value : Option Value} {g : Regs} {before : Work} {said : Answer ℕ Went} where
   pub first_comes : said ≡ ok (waits first) → Leaves 2 first value (with_regs before g) before said
@@ -42,8 +58,8 @@ instead e m = record { says = m.says ∙ sym e; kept = m.kept }
 
 -- ---- The registers
 
-pub landed : {how : ℕ} (y : Stay) (at sp made row : ℕ) → {running : ℕ} → InFrame y sp running → row ≤ 128 → Landed (stays_at how y at sp made row)
-landed y at sp made row f h = record { frame = f.frame; row = h; bottom = omega (arith, f.stays.floor_is, f.topped.low) }
+pub landed : {how row : ℕ} (g : Registers) → Standing g → row ≤ 128 → Landed (stays_in g how row)
+landed g f h = record { frame = f.frame; row = h; bottom = omega (arith, f.stays.floor_is, f.topped.low) }
 
 -- the frame above
 pub framed_above : {fp : ℕ} → Framed fp → fp < 1984 → Framed (fp + 64)
@@ -73,16 +89,6 @@ module _ (methods : List ℕ) (c : Work) (r : ℕ) where
 
 -- ---- The start of a class
 
--- what a number that is 0, or not, chooses
-module _ {e : ℕ} {said : Answer ℕ Went} (right other : Answer ℕ Went) (q : said ≡ pick (eqb e 0) right other) where
-  pub through : e ≡ 0 → said ≡ right
-  unfolding pick
-  through z = q ∙ simp (eq-eqb _ _ z)
-
-  pub aside : (e ≡ 0 → ⊥) → said ≡ other
-  unfolding pick
-  aside n = q ∙ simp (ne_eqb _ _ n)
-
 turned : (b : Bool) (x z : Answer ℕ Went) → pick (true && not b) x z ≡ pick b z x
 unfolding pick
 turned true x z = refl
@@ -93,6 +99,11 @@ module _ (initialisers : List ℕ) (c : Work) (k : ℕ) (then : List ℕ → Ans
   unfolding starting_w pick
   start_marked n = simp (m, ne_eqb _ _ n)
 
-  pub start_says : {w : ℕ} → get_or marks k 0 ≡ 0 → w ≡ get_or initialisers k 0 → starting_w initialisers c k then ≡ pick (eqb w 0) (then (set marks k 1)) (ok (waits w))
-  unfolding starting_w
-  start_says {w} z q = rw (m, eq-eqb _ _ z, ← q) (turned (eqb w 0) _ _)
+  module _ {w : ℕ} (z : get_or marks k 0 ≡ 0) (q : w ≡ get_or initialisers k 0) where
+    pub start_bare : w ≡ 0 → starting_w initialisers c k then ≡ then (set marks k 1)
+    unfolding starting_w pick
+    start_bare e = rw (m, eq-eqb _ _ z, ← q) (turned (eqb w 0) _ _ ∙ simp (eq-eqb _ _ e))
+
+    pub start_waits : (w ≡ 0 → ⊥) → starting_w initialisers c k then ≡ ok (waits w)
+    unfolding starting_w pick
+    start_waits n = rw (m, eq-eqb _ _ z, ← q) (turned (eqb w 0) _ _ ∙ simp (ne_eqb _ _ n))

@@ -13,38 +13,41 @@ use Rattle.state.specs.Work.{kind_at, bits_at, few, fits_w, fit_all_w, taking_w,
 
 -- ---- A loop that tests each cell
 
-module _ (methods ancestors : List ℕ) (c : Work) (r : ℕ) where
-  pub fit_first : (n first from : ℕ) → fit_all_w methods ancestors c r (from + n - from) (r * 32 + first - r * 32) from ≡ fit_all_w methods ancestors c r n first from
-  fit_first n first from =
-      let a : from + n - from ≡ n = omega arith in
-      let b : r * 32 + first - r * 32 ≡ first = omega arith in
-      rw (a, b)
+module _ (methods ancestors : List ℕ) (c : Work) (r n first from : ℕ) where
+  -- what is left after i cells
+  abbrev pub rest_fits : ℕ → Bool
+  rest_fits i = fit_all_w methods ancestors c r (n - i) (first + i) (from + i)
 
-  -- the cell s is held to the type at t
-  module _ (end s t : ℕ) where
-    fit_more : s < end → r * 32 ≤ t → {b : Bool} → b ≡ fits_w ancestors c.classes (kind_at c s) (bits_at c s) (get_or methods t 0)
-        → fit_all_w methods ancestors c r (end - s) (t - r * 32) s ≡ (b && fit_all_w methods ancestors c r (end - (s + 1)) (t + 1 - r * 32) (s + 1))
+  pub fit_first : rest_fits 0 ≡ fit_all_w methods ancestors c r n first from
+  fit_first =
+      let a : n - 0 ≡ n = omega arith in
+      let e : first + 0 ≡ first = omega arith in
+      let f : from + 0 ≡ from = omega arith in
+      rw (a, e, f)
+
+  module _ (i : ℕ) (h : i < n) {b : Bool} (q : b ≡ fits_w ancestors c.classes (kind_at c (from + i)) (bits_at c (from + i)) (get_or methods (r * 32 + first + i) 0)) where
+    fit_more : rest_fits i ≡ (b && rest_fits (i + 1))
     unfolding fit_all_w
-    fit_more h k q =
-        let a : end - s ≡ suc (end - (s + 1)) = omega arith in
-        let b : t + 1 - r * 32 ≡ suc (t - r * 32) = omega arith in
-        let e : s + 1 ≡ suc s = omega arith in
-        let d : t ≡ r * 32 + (t - r * 32) = omega arith in
-        rw (a, b, e, q ∙ ap (λ i. fits_w ancestors c.classes (kind_at c s) (bits_at c s) (get_or methods i 0)) d)
+    fit_more =
+        let a : n - i ≡ suc (n - (i + 1)) = omega arith in
+        let e : first + (i + 1) ≡ suc (first + i) = omega arith in
+        let f : from + (i + 1) ≡ suc (from + i) = omega arith in
+        let d : r * 32 + first + i ≡ r * 32 + (first + i) = omega arith in
+        rw (a, e, f, q ∙ ap (λ k. fits_w ancestors c.classes (kind_at c (from + i)) (bits_at c (from + i)) (get_or methods k 0)) d)
 
     -- the rest decides what all do
-    module _ {all : Bool} (rest : fit_all_w methods ancestors c r (end - s) (t - r * 32) s ≡ all) (h : s < end) (k : r * 32 ≤ t) {b : Bool} (q : b ≡ fits_w ancestors c.classes (kind_at c s) (bits_at c s) (get_or methods t 0)) where
+    module _ {all : Bool} (rest : rest_fits i ≡ all) where
       pub fit_fails : b ≡ false → false ≡ all
-      fit_fails z = sym (simp (z) at (fit_more h k {b = b} q)) ∙ rest
+      fit_fails z = sym (simp (z) at fit_more) ∙ rest
 
-      pub fit_goes : b ≡ true → fit_all_w methods ancestors c r (end - (s + 1)) (t + 1 - r * 32) (s + 1) ≡ all
-      fit_goes z = sym (simp (z) at (fit_more h k {b = b} q)) ∙ rest
+      pub fit_goes : b ≡ true → rest_fits (i + 1) ≡ all
+      fit_goes z = sym (simp (z) at fit_more) ∙ rest
 
-    pub fit_done : end ≤ s → fit_all_w methods ancestors c r (end - s) (t - r * 32) s ≡ true
-    unfolding fit_all_w
-    fit_done h =
-        let a : end - s ≡ 0 = omega arith in
-        rw a
+  pub fit_done : {i : ℕ} → n ≤ i → rest_fits i ≡ true
+  unfolding fit_all_w
+  fit_done {i} h =
+      let a : n - i ≡ 0 = omega arith in
+      rw a
 
 -- ---- Arguments taken
 

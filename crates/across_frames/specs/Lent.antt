@@ -1,12 +1,18 @@
 -- The work that the lent arrays are parts of, the tables that they are, and the ranges that the steps keep.
-use Rattle.std.specs.Prelude.{ℕ, ◌+◌, ◌*◌, ◌≤◌, ◌<◌, ◌≡◌, Bool, true, false, not, List, get_or, eqb}
-use Rattle.model.specs.Answer.{Answer, ◌>>=◌, guard, pick}
+use Rattle.std.specs.Prelude.{ℕ, ◌+◌, ◌*◌, ◌≤◌, ◌<◌, ◌≡◌, Bool, not, List, get_or, eqb, Result, Ok, Err, Option, None, Some}
+use Rattle.model.specs.Answer.{Answer, bad, ok, ◌>>=◌, guard, pick}
 use Rattle.loaded.specs.Holds.{method_cell}
 use Rattle.state.specs.declared.Stay.{Stay}
 use Rattle.state.specs.declared.Moved.{Moved}
+use Rattle.across_frames.specs.declared.calls.Way.{Way}
+use Rattle.across_frames.specs.declared.calls.Way.TheVariants.{Call, Callvirt}
+use Rattle.across_frames.specs.declared.ending.Ending.{Ending}
+use Rattle.across_frames.specs.declared.ending.Ending.TheVariants.{NoObject, FramesUsed, ObjectsUsed, Cut, NoSuch, TooFew, NoRoom, Unfit}
+use Rattle.across_frames.specs.declared.registers.Registers.{Registers}
+use Rattle.across_frames.specs.declared.tables.Tables.{Tables as Lists}
 use Rattle.state.specs.View.{Regs, Work}
 use Rattle.state.specs.Meets.{Stays, Topped, Few}
-use Rattle.state.specs.Work.{Tables, Went, place_of, call_row, chosen_row, callvirt_row, newobj_row, call_sort, callvirt_sort, newobj_sort}
+use Rattle.state.specs.Work.{Tables, Went, waits, place_of, call_row, chosen_row, callvirt_row, newobj_row, call_sort, callvirt_sort, newobj_sort}
 
 -- ---- Registers and arrays in place
 
@@ -21,6 +27,39 @@ on_leave c g cells kinds marks classes = record { regs = g; cells = cells; kinds
 -- a step that ends in its frame, or waits
 abbrev pub stays_at : ℕ → Stay → ℕ → ℕ → ℕ → ℕ → Moved
 stays_at how y at sp made row = record { how = how; at = at; sp = sp; fp = y.fp; row = row; made = made }
+
+abbrev pub stays_in : Registers → ℕ → ℕ → Moved
+stays_in g how row = stays_at how g.stay g.at g.sp g.made row
+
+-- the registers of a stay, and the work with them
+abbrev pub regs_in : Registers → Regs
+regs_in g = regs_at g.stay g.row g.at g.sp g.made
+
+-- the numbers of document 01
+abbrev pub number_of : Ending → ℕ
+number_of NoObject = 34
+number_of FramesUsed = 36
+number_of ObjectsUsed = 37
+number_of Cut = 41
+number_of NoSuch = 42
+number_of TooFew = 43
+number_of NoRoom = 44
+number_of Unfit = 45
+
+-- what a step came to: one that is refused ends in its frame
+abbrev pub moved : Registers → Result Moved Ending → Moved
+moved g (Ok m) = m
+moved g (Err e) = stays_in g (number_of e) g.row
+
+-- what comes where nothing is refused
+abbrev pub unless : {A B : Type 0} → Result A Ending → (A → Answer ℕ B) → Answer ℕ B
+unless (Ok a) then = then a
+unless (Err e) then = bad (number_of e)
+
+-- and where no initialiser comes first
+abbrev pub unless_due : Option ℕ → Answer ℕ Went → Answer ℕ Went
+unless_due None then = then
+unless_due (Some first) then = ok (waits first)
 
 -- one that goes on in the caller
 abbrev pub back_to : ℕ → ℕ → ℕ → ℕ → ℕ → Moved
@@ -40,16 +79,16 @@ opcode_of next = pick (eqb next 3) 0x2A (pick (eqb next 6) 0x73 (pick (eqb next 
 
 -- ---- call and callvirt by one function, callvirt by an object
 
-unfoldable pub named_sort : Bool → ℕ → Bool
-named_sort true = callvirt_sort
-named_sort false = call_sort
+unfoldable pub named_sort : Way → ℕ → Bool
+named_sort Callvirt = callvirt_sort
+named_sort Call = call_sort
 
-unfoldable pub named_row : Bool → List ℕ → List ℕ → List ℕ → List ℕ → Stay → Work → ℕ → Answer ℕ Went
-named_row true methods initialisers ancestors chosen y c r = callvirt_row methods initialisers ancestors chosen y c r
-named_row false methods initialisers ancestors chosen y c r = call_row methods initialisers ancestors y c r
+unfoldable pub named_row : Way → List ℕ → List ℕ → List ℕ → List ℕ → Stay → Work → ℕ → Answer ℕ Went
+named_row Callvirt methods initialisers ancestors chosen y c r = callvirt_row methods initialisers ancestors chosen y c r
+named_row Call methods initialisers ancestors chosen y c r = call_row methods initialisers ancestors y c r
 
 -- the instruction, where r is a row that is there
-unfoldable pub named_w : Bool → List ℕ → List ℕ → List ℕ → List ℕ → Stay → Work → ℕ → Answer ℕ Went
+unfoldable pub named_w : Way → List ℕ → List ℕ → List ℕ → List ℕ → Stay → Work → ℕ → Answer ℕ Went
 named_w by methods initialisers ancestors chosen y c r =
     guard (named_sort by (method_cell methods r 24)) 42 >>= λ _.
     named_row by methods initialisers ancestors chosen y c r
@@ -60,13 +99,17 @@ newobj_w methods initialisers ancestors y c r =
     newobj_row methods initialisers ancestors y c r
 
 -- the row that is taken where r is named: callvirt needs an object
-unfoldable pub taken_by : Bool → List ℕ → List ℕ → List ℕ → ℕ → ℕ → (ℕ → Answer ℕ Went) → Answer ℕ Went
-taken_by true methods chosen classes object r then =
+unfoldable pub taken_by : Way → List ℕ → List ℕ → List ℕ → ℕ → ℕ → (ℕ → Answer ℕ Went) → Answer ℕ Went
+taken_by Callvirt methods chosen classes object r then =
     guard (not (eqb object 0)) 34 >>= λ _.
     then (chosen_row methods chosen r (get_or classes (place_of object) 0))
-taken_by false methods chosen classes object r then = then r
+taken_by Call methods chosen classes object r then = then r
 
 -- ---- Ranges
+
+-- the tables that are lent together
+abbrev pub LendsAll : Tables → Lists → Type 0
+LendsAll P T = Lends P T.count T.methods.now T.initialisers.now T.ancestors.now T.chosen.now
 
 -- what a frame is pushed by
 pub record RowRanges (methods : List ℕ) : Type 0 where
@@ -99,6 +142,12 @@ pub record InFrame (y : Stay) (sp row : ℕ) : Type 0 where
   pub topped : Topped y sp
   pub frame : Framed y.fp
   pub row_few : row ≤ 128
+
+abbrev pub Standing : Registers → Type 0
+Standing g = InFrame g.stay g.sp g.row
+
+abbrev pub InRange : Lists → Type 0
+InRange T = CallRanges T.count T.methods.now T.initialisers.now T.chosen.now
 
 -- the registers after a step that may leave its frame
 pub record Landed (r : Moved) : Type 0 where

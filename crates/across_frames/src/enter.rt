@@ -1,13 +1,15 @@
 // A new frame, and the start of a class.
-ghost use Rattle.std.specs.Prelude.{◌≡◌, List, ℕ, ◌+◌, ◌≤◌, ◌<◌, set, eqb};
+ghost use Rattle.std.specs.Prelude.{◌≡◌, List, ℕ, ◌+◌, ◌≤◌, ◌<◌, set, IfSome};
 ghost use Rattle.std.proofs.Math.Option.{Option};
-ghost use Rattle.model.specs.Answer.{Answer, ok, pick};
+ghost use Rattle.model.specs.Answer.{Answer};
 ghost use Rattle.model.specs.State.{Value};
 ghost use Rattle.state.specs.View.{Work};
-ghost use Rattle.state.specs.Work.{Went, waits, with_regs, with_cells, copy_of, clear as cleared, fours, entered, start_w, starting_w};
+ghost use Rattle.state.specs.Work.{Went, with_regs, with_cells, copy_of, clear as cleared, fours, entered, start_w, starting_w};
 ghost use Rattle.state.specs.Meets.{Stays, Few, regs_of, Leaves};
-ghost use Rattle.across_frames.specs.Lent.{regs_at, on_leave, stays_at, RowRanges, Framed, InFrame, Landed};
+ghost use Rattle.across_frames.specs.Lent.{regs_at, regs_in, on_leave, moved, unless_due, RowRanges, Framed, Standing, Landed};
 
+use crate::ending::Ending;
+use crate::registers::Registers;
 use loaded::columns::{LOCAL_COUNT, OWNER};
 use state::columns::{AT, DEPTH, FRAME, LAST_FRAME, LOCALS, METHOD, ON, STACK};
 use state::fit::wide;
@@ -15,23 +17,6 @@ use state::{Moved, Stay};
 
 // How many bytes a method's row has.
 pub const ROW: usize = loaded::columns::METHOD;
-
-// The frame limit is reached.
-pub const FRAMES_USED: u8 = 36;
-
-// A step that ends in its frame, or lets the initialiser `row` come first.
-pub fn stays(how: u8, y: Stay, at: usize, sp: usize, made: usize, row: usize) -> Moved
-    ensures { result ≡ stays_at how y at sp made row }
-{
-    Moved {
-        how: how,
-        at: at,
-        sp: sp,
-        fp: y.fp,
-        row: row,
-        made: made,
-    }
-}
 
 fn clear_four(cells: &mut [u64; 2048], at: usize)
     requires { at + 4 ≤ 2048 }
@@ -126,46 +111,55 @@ pub fn enter(
     }
 }
 
-// The initialiser that comes before a class is used: 0 where the class is marked or has none.
-pub fn first_due(marks: &[u8; 33], initialisers: &[u8; 33], class: usize) -> usize
+// The initialiser that comes before a class is used: none where the class is marked or has none.
+pub fn first_due(marks: &[u8; 33], initialisers: &[u8; 33], class: usize) -> Option<usize>
     requires few { Few 128 initialisers.now }
     requires class_at_most { class ≤ 32 }
-    ensures result_at_most { result ≤ 128 }
+    ensures due_few { IfSome result (λ first. first ≤ 128) }
     ensures as_model { ((c : Work) (then : List ℕ → Answer ℕ Went)
         → c.marks ≡ marks.now → starting_w initialisers.now c class then
-        ≡ pick (eqb result 0) (then (set marks.now class 1)) (ok (waits result))) }
+        ≡ unless_due result (then (set marks.now class 1))) }
 {
     if marks[class] != 0 {
-        return 0;
+        return None;
     }
-    wide(initialisers[class])
+    let first = wide(initialisers[class]);
+    if first == 0 {
+        return None;
+    }
+    Some(first)
 }
 
-// The frame of the initialiser `first`, whose class is marked; `row` is the running method's.
+// The frame of the initialiser `first`, whose class is marked.
 pub fn start(
-    y: Stay,
-    at: usize,
-    sp: usize,
-    made: usize,
-    row: usize,
+    registers: Registers,
     cells: &mut [u64; 2048],
     marks: &mut [u8; 33],
     methods: &[u8; 4128],
     first: usize,
-) -> Moved
-    requires in_frame { InFrame y sp row }
+) -> Result<Moved, Ending>
+    requires standing { Standing registers }
     requires first_at_most { first ≤ 128 }
     requires row_ranges { RowRanges methods.now }
-    ensures landed { Landed result }
+    ensures landed { Landed (moved registers result) }
     ensures leaves { ((c : Work) (value : Option Value)
-        → let before = on_leave c (regs_at y row at sp made) cells.old c.kinds marks.old c.classes in
-        Leaves result.how result.row value (on_leave c (regs_of result) cells.new c.kinds marks.new c.classes) before
+        → let before = on_leave c (regs_in registers) cells.old c.kinds marks.old c.classes in
+        let m = moved registers result in
+        Leaves m.how m.row value (on_leave c (regs_of m) cells.new c.kinds marks.new c.classes) before
         (start_w methods.now before first)) }
 {
-    if LAST_FRAME <= y.fp {
-        return stays(FRAMES_USED, y, at, sp, made, row);
+    if LAST_FRAME <= registers.stay.fp {
+        return Err(Ending::FramesUsed);
     }
     let class = wide(methods[first * ROW + OWNER]);
     marks[class] = 1;
-    enter(y, at, sp, made, cells, methods, first)
+    Ok(enter(
+        registers.stay,
+        registers.at,
+        registers.sp,
+        registers.made,
+        cells,
+        methods,
+        first,
+    ))
 }

@@ -3,7 +3,10 @@
 
 pub mod arguments; // what a call takes from the stack
 pub mod calls; // call and callvirt
+pub mod ending; // what ends the run
 pub mod enter; // a new frame
 pub mod leave; // the step of a number
 pub mod objects; // newobj
+pub mod registers; // where a stay is
 pub mod returns; // ret
+pub mod tables; // what the steps read

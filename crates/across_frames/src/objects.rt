@@ -5,37 +5,26 @@ ghost use Rattle.model.specs.State.{Value};
 ghost use Rattle.state.specs.View.{Work};
 ghost use Rattle.state.specs.Work.{entered, made_w};
 ghost use Rattle.state.specs.Meets.{Stays, Topped, Few, Placed, regs_of, Leaves};
-ghost use Rattle.across_frames.specs.Lent.{regs_at, on_leave, newobj_w, RowRanges, Framed, InFrame, Landed};
+ghost use Rattle.across_frames.specs.Lent.{regs_at, regs_in, on_leave, moved, newobj_w, RowRanges, Framed, Standing, Landed};
 
-use crate::arguments::untaken;
-use crate::calls::NO_SUCH;
-use crate::enter::{FRAMES_USED, ROW, copy, enter, first_due, stays};
+use crate::arguments::take;
+use crate::ending::Ending;
+use crate::enter::{ROW, copy, enter, first_due};
+use crate::registers::Registers;
+use crate::tables::Tables;
 use loaded::columns::{ARGUMENT_COUNT, OWNER, SORT};
+use state::Moved;
 use state::columns::{FRAME, LAST_FRAME, START};
 use state::fit::wide;
-use state::{Moved, Stay};
 
 // As many objects as there are places.
 const OBJECTS: usize = 256;
 
-// No place is left for an object.
-const OBJECTS_USED: u8 = 37;
-
 const CONSTRUCTOR: u8 = 3;
-
-// How many arguments come after `this`.
-fn after_this(arguments: usize) -> usize
-    ensures { result ≡ arguments - 1 }
-{
-    if arguments == 0 { 0 } else { arguments - 1 }
-}
 
 // An object of a class is made, and the frame of its constructor entered: n cells of the stack are arguments after the reference, which takes their place.
 fn construct(
-    y: Stay,
-    at: usize,
-    sp: usize,
-    made: usize,
+    registers: Registers,
     cells: &mut [u64; 2048],
     kinds: &mut [u8; 2048],
     classes: &mut [u8; 256],
@@ -44,82 +33,87 @@ fn construct(
     taken: usize,
     n: usize,
 ) -> Moved
-    requires stays { Stays y }
-    requires topped { Topped y sp }
-    requires framed { Framed y.fp }
+    requires stays { Stays registers.stay }
+    requires topped { Topped registers.stay registers.sp }
+    requires framed { Framed registers.stay.fp }
     requires row_ranges { RowRanges methods.now }
-    requires y_range { (y.fp < 1984) × (made < 256) × (taken ≤ 128) × (n ≤ 7) × (y.floor + n ≤ sp) }
+    requires in_range { (registers.stay.fp < 1984) × (registers.made < 256) × (taken ≤ 128) × (n ≤ 7) × (registers.stay.floor + n ≤ registers.sp) }
     ensures landed { Landed result }
     ensures how_is { result.how ≡ 0 }
     ensures as_model { ((c : Work) (k : ℕ)
         → on_leave c (regs_of result) cells.new kinds.new c.marks classes.new
         ≡ entered methods.now
-        (made_w (on_leave c (regs_at y k at sp made) cells.old kinds.old c.marks classes.old) class n) taken (sp - n + 1)) }
+        (made_w (on_leave c (regs_at registers.stay k registers.at registers.sp registers.made) cells.old kinds.old c.marks classes.old) class n) taken (registers.sp - n + 1)) }
 {
-    let d = sp - n;
-    let to = y.fp + FRAME;
-    let object = (made + 1) as u64;
+    let d = registers.sp - n;
+    let to = registers.stay.fp + FRAME;
+    let object = (registers.made + 1) as u64;
     copy(cells, d, to + 1, n);
     cells[to] = object;
     cells[d] = object;
     kinds[d] = 0;
-    classes[made] = class;
-    enter(y, at, d + 1, made + 1, cells, methods, taken)
+    classes[registers.made] = class;
+    enter(
+        registers.stay,
+        registers.at,
+        d + 1,
+        registers.made + 1,
+        cells,
+        methods,
+        taken,
+    )
 }
 
 // newobj by the constructor `named`.
 pub fn newobj(
-    y: Stay,
-    at: usize,
-    sp: usize,
-    made: usize,
-    row: usize,
+    registers: Registers,
     cells: &mut [u64; 2048],
     kinds: &mut [u8; 2048],
     marks: &mut [u8; 33],
     classes: &mut [u8; 256],
-    methods: &[u8; 4128],
-    initialisers: &[u8; 33],
-    ancestors: &[u64; 33],
+    tables: &Tables,
     named: usize,
-) -> Moved
-    requires in_frame { InFrame y sp row }
+) -> Result<Moved, Ending>
+    requires standing { Standing registers }
     requires placed { Placed classes.old }
-    requires row_ranges { RowRanges methods.now }
-    requires few { Few 128 initialisers.now }
+    requires row_ranges { RowRanges tables.now.methods.now }
+    requires few { Few 128 tables.now.initialisers.now }
     requires named_at_most { named ≤ 128 }
-    ensures landed { Landed result }
+    ensures landed { Landed (moved registers result) }
     ensures leaves { ((c : Work) (value : Option Value)
-        → let before = on_leave c (regs_at y row at sp made) cells.old kinds.old marks.old classes.old in
-        Leaves result.how result.row value
-        (on_leave c (regs_of result) cells.new kinds.new marks.new classes.new) before
-        (newobj_w methods.now initialisers.now ancestors.now y before named)) }
+        → let before = on_leave c (regs_in registers) cells.old kinds.old marks.old classes.old in
+        let m = moved registers result in
+        Leaves m.how m.row value
+        (on_leave c (regs_of m) cells.new kinds.new marks.new classes.new) before
+        (newobj_w tables.now.methods.now tables.now.initialisers.now tables.now.ancestors.now registers.stay before named)) }
 {
     let m = named * ROW;
-    if methods[m + SORT] != CONSTRUCTOR {
-        return stays(NO_SUCH, y, at, sp, made, row);
+    if tables.methods[m + SORT] != CONSTRUCTOR {
+        return Err(Ending::NoSuch);
     }
-    let n = after_this(wide(methods[m + ARGUMENT_COUNT]));
-    let e = untaken(
-        y, sp, cells, kinds, classes, methods, ancestors, named, n, 1, 1,
-    );
-    if e != 0 {
-        return stays(e, y, at, sp, made, row);
-    }
-    let owner = methods[m + OWNER];
+    // `this` is no argument on the stack
+    let n = wide(tables.methods[m + ARGUMENT_COUNT]).saturating_sub(1);
+    take(registers, cells, kinds, classes, tables, named, n, 1, 1)?;
+    let owner = tables.methods[m + OWNER];
     let class = wide(owner);
-    let first = first_due(marks, initialisers, class);
-    if first != 0 {
-        return stays(START, y, at, sp, made, first);
+    if let Some(first) = first_due(marks, tables.initialisers, class) {
+        return Ok(registers.stays(START, first));
     }
-    if OBJECTS <= made {
-        return stays(OBJECTS_USED, y, at, sp, made, row);
+    if OBJECTS <= registers.made {
+        return Err(Ending::ObjectsUsed);
     }
-    if LAST_FRAME <= y.fp {
-        return stays(FRAMES_USED, y, at, sp, made, row);
+    if LAST_FRAME <= registers.stay.fp {
+        return Err(Ending::FramesUsed);
     }
     marks[class] = 1;
-    construct(
-        y, at, sp, made, cells, kinds, classes, methods, owner, named, n,
-    )
+    Ok(construct(
+        registers,
+        cells,
+        kinds,
+        classes,
+        tables.methods,
+        owner,
+        named,
+        n,
+    ))
 }

@@ -3,16 +3,55 @@
 
 ghost use Rattle.std.specs.Prelude.{◌≡◌, ◌+◌, get_or};
 ghost use Rattle.state.specs.View.{Work};
-ghost use Rattle.state.specs.Work.{Tables, value_due, due_of_byte};
+ghost use Rattle.state.specs.Work.{Tables as ModelTables, value_due, due_of_byte};
 ghost use Rattle.state.specs.Order.{Saved};
 ghost use Rattle.state.specs.Meets.{Placed, regs_of, Leaves};
-ghost use Rattle.across_frames.specs.Lent.{regs_at, on_leave, Lends, CallRanges, InFrame, Landed};
+ghost use Rattle.across_frames.specs.Lent.{regs_at, regs_in, on_leave, moved, Lends, LendsAll, CallRanges, InRange, InFrame, Standing, Landed};
 ghost use Rattle.crossing.specs.Crossing.{crossing, Crosses};
 
+use across_frames::ending::Ending;
 use across_frames::enter::start;
 use across_frames::leave::leave;
+use across_frames::registers::Registers;
+use across_frames::tables::Tables;
 use state::columns::START;
 use state::{Moved, Stay};
+
+// The step with the number `next`. Where it has to wait for an initialiser, that one's frame comes.
+fn step(
+    next: u8,
+    first: usize,
+    registers: Registers,
+    part: &[u8],
+    cells: &mut [u64; 2048],
+    kinds: &mut [u8; 2048],
+    marks: &mut [u8; 33],
+    classes: &mut [u8; 256],
+    tables: &Tables,
+) -> Result<Moved, Ending>
+    requires standing { Standing registers }
+    requires saved { Saved 128 cells.old }
+    requires placed { Placed classes.old }
+    requires in_range { InRange tables.now }
+    requires crosses { Crosses next first registers.at part.now }
+    ensures landed { Landed (moved registers result) }
+    ensures never_waits { ((moved registers result).how ≡ 2 → ⊥) }
+    ensures leaves { ((P : ModelTables) (c : Work) → LendsAll P tables.now →
+        let before = on_leave c (regs_in registers) cells.old kinds.old marks.old classes.old in
+        let m = moved registers result in
+        Leaves m.how m.row (value_due before (due_of_byte (get_or tables.now.methods.now (registers.stay.mp + 26) 0)))
+        (on_leave c (regs_of m) cells.new kinds.new marks.new classes.new)
+        before (crossing P part.now registers.stay before next first)) }
+{
+    if next == START {
+        return start(registers, cells, marks, tables.methods, first);
+    }
+    let moved = leave(next, registers, part, cells, kinds, marks, classes, tables)?;
+    if moved.how != START {
+        return Ok(moved);
+    }
+    start(registers, cells, marks, tables.methods, moved.row)
+}
 
 // `next` says which: ret, call, callvirt, newobj, or the frame of the initialiser `first`. Where such a step has to wait for an initialiser, that
 // one's frame comes.
@@ -42,35 +81,27 @@ pub fn cross(
     requires crosses { Crosses next first at part.now }
     ensures landed { Landed result }
     ensures never_result { (result.how ≡ 2 → ⊥) }
-    ensures leaves { ((P : Tables) (c : Work) → Lends P count methods.now initialisers.now ancestors.now chosen.now →
+    ensures leaves { ((P : ModelTables) (c : Work) → Lends P count methods.now initialisers.now ancestors.now chosen.now →
         let before = on_leave c (regs_at y row at sp made) cells.old kinds.old marks.old classes.old in
         Leaves result.how result.row (value_due before (due_of_byte (get_or methods.now (y.mp + 26) 0)))
         (on_leave c (regs_of result) cells.new kinds.new marks.new classes.new)
         before (crossing P part.now y before next first)) }
 {
-    if next == START {
-        return start(y, at, sp, made, row, cells, marks, methods, first);
-    }
-    let r = leave(
-        next,
-        y,
-        part,
-        at,
-        sp,
-        made,
-        row,
-        cells,
-        kinds,
-        marks,
-        classes,
-        methods,
-        initialisers,
-        ancestors,
-        chosen,
-        count,
-    );
-    if r.how != START {
-        return r;
-    }
-    start(y, at, sp, made, row, cells, marks, methods, r.row)
+    let registers = Registers {
+        stay: y,
+        at: at,
+        sp: sp,
+        made: made,
+        row: row,
+    };
+    let tables = Tables {
+        count: count,
+        methods: methods,
+        initialisers: initialisers,
+        ancestors: ancestors,
+        chosen: chosen,
+    };
+    registers.after(step(
+        next, first, registers, part, cells, kinds, marks, classes, &tables,
+    ))
 }

@@ -1,14 +1,16 @@
-use Rattle.across_frames.proofs.Called.{sort_initialiser, sort_call, sort_static, sort_instance}
+use borrow.Author.Tests.{lt-leb, le-leb}
+use Rattle.model.specs.Loading.{within}
+use Rattle.across_frames.specs.Lent.{named_sort}
 use Rattle.across_frames.proofs.calls.callable.Goals as goal
 
-pub returns-then-sort-eq-INITIALISER : goal.returns-then-sort-eq-INITIALISER
-returns-then-sort-eq-INITIALISER c = sort_initialiser _ _ c.if-sort-eq-INITIALISER.true
+pub returns-in-Call : goal.returns-in-Call
+unfolding named_sort
+returns-in-Call c = rw c.in-Call.is
 
-pub returns-then-not-callvirt : goal.returns-then-not-callvirt
-returns-then-not-callvirt c = sort_call _ c.if-sort-eq-INITIALISER.false (c.if-not-callvirt.true)
+pub returns-then-sort-ge-INSTANCE : goal.returns-then-sort-ge-INSTANCE
+unfolding named_sort within
+returns-then-sort-ge-INSTANCE c = rw c.in-Callvirt.is (simp (le-leb _ _ c.if-sort-ge-INSTANCE.true))
 
-pub returns-then-sort-lt-INSTANCE : goal.returns-then-sort-lt-INSTANCE
-returns-then-sort-lt-INSTANCE c = sort_static _ (c.if-not-callvirt.false) c.if-sort-lt-INSTANCE.true
-
-pub returns : goal.returns
-returns c = sort_instance _ (c.if-not-callvirt.false) c.if-sort-lt-INSTANCE.false
+pub returns-else-sort-ge-INSTANCE : goal.returns-else-sort-ge-INSTANCE
+unfolding named_sort within
+returns-else-sort-ge-INSTANCE c = rw c.in-Callvirt.is (simp (lt-leb _ _ c.if-sort-ge-INSTANCE.false))

@@ -1,12 +1,11 @@
-use borrow.Author.Rules.{rules}
-use native.Mathlib.Omega.{arith}
-use Rattle.model.specs.Answer.{pick}
-use Rattle.across_frames.proofs.Moving.{start_marked, start_says}
+use Rattle.across_frames.proofs.Moving.{start_marked, start_bare, start_waits}
 use Rattle.across_frames.proofs.enter.first_due.Goals as goal
 
-pub returns-then-marks-class-ne0 : goal.returns-then-marks-class-ne0
-unfolding pick
-returns-then-marks-class-ne0 c = record { result_at_most = search rules; as_model = λ w t m. start_marked _ w _ t m c.if-marks-class-ne0.true }
+pub returns-then-marks-class-ne0-clause-as_model : goal.returns-then-marks-class-ne0-clause-as_model
+returns-then-marks-class-ne0-clause-as_model c = λ w t m. start_marked _ w _ t m c.if-marks-class-ne0.true
 
-pub returns : goal.returns
-returns c = record { result_at_most = omega (arith, c.requires.few.most c.args.class, c.wide.ensures.0); as_model = λ w t m. start_says _ w _ t m c.if-marks-class-ne0.false c.wide.ensures.0 }
+pub returns-then-first-eq0-clause-as_model : goal.returns-then-first-eq0-clause-as_model
+returns-then-first-eq0-clause-as_model c = λ w t m. start_bare _ w _ t m c.if-marks-class-ne0.false c.wide-first.ensures.0 c.if-first-eq0.true
+
+pub returns-clause-as_model : goal.returns-clause-as_model
+returns-clause-as_model c = λ w t m. start_waits _ w _ t m c.if-marks-class-ne0.false c.wide-first.ensures.0 c.if-first-eq0.false

@@ -7,8 +7,7 @@ use Rattle.across_frames.proofs.Made.{made_frame}
 use Rattle.across_frames.proofs.objects.construct.Goals as goal
 
 pub enter-requires : goal.enter-requires
-enter-requires c = record { stays = c.requires.stays; framed = c.requires.framed; y_range = (omega (arith, c.requires.y_range), c.requires.y_range.0, c.requires.y_range.2); row_ranges = c.requires.row_ranges }
+enter-requires c = record { stays = c.requires.stays; framed = c.requires.framed; y_range = (omega (arith, c.requires.in_range), c.requires.in_range.0, c.requires.in_range.2); row_ranges = c.requires.row_ranges }
 
 pub returns : goal.returns
-returns c = let s = c in
-    record { landed = c.enter.ensures.landed; how_is = c.enter.ensures.how_is; as_model = λ w k. made_frame _ (on_leave w (regs_at s.args.y k s.args.at s.args.sp s.args.made) s.args.cells.now s.args.kinds.now w.marks s.args.classes.now) _ _ _ c.copy.ensures (c.enter.ensures.as_model (with_heap (with_cells w w.cells (set s.args.kinds.now (s.args.sp - s.args.n) 0)) (set s.args.classes.now s.args.made s.args.class) w.heap) k (s.args.sp - s.args.n + 1)) }
+returns c = record { landed = c.enter.ensures.landed; how_is = c.enter.ensures.how_is; as_model = λ w k. made_frame _ (on_leave w (regs_at c.args.registers.stay k c.args.registers.at c.args.registers.sp c.args.registers.made) c.args.cells.now c.args.kinds.now w.marks c.args.classes.now) _ _ _ c.copy.ensures (c.enter.ensures.as_model (with_heap (with_cells w w.cells (set c.args.kinds.now (c.args.registers.sp - c.args.n) 0)) (set c.args.classes.now c.args.registers.made c.args.class) w.heap) k (c.args.registers.sp - c.args.n + 1)) }
