@@ -18,7 +18,11 @@ use Rattle.state.specs.Meets.{answer, moves, Leaves}
 use Rattle.across_frames.specs.declared.ending.Ending.{Ending}
 use Rattle.across_frames.specs.declared.ending.Ending.TheVariants.{NoObject, FramesUsed, ObjectsUsed, Cut, NoSuch, TooFew, NoRoom, Unfit}
 use Rattle.across_frames.specs.declared.registers.Registers.{Registers}
-use Rattle.across_frames.specs.Lent.{regs_at, stays_in, number_of, Framed, Standing, Landed}
+use Rattle.state.specs.declared.Moved.{Moved}
+use Rattle.across_frames.specs.declared.change.Change.{Change}
+use Rattle.across_frames.specs.declared.change.Change.TheVariants.{Moves, Over, Waits}
+use Rattle.std.specs.Prelude.{Ok}
+use Rattle.across_frames.specs.Lent.{moved, regs_at, stays_in, going, number_of, Framed, Standing, Landed}
 
 -- ---- The answer
 
@@ -58,8 +62,17 @@ instead e m = record { says = m.says ∙ sym e; kept = m.kept }
 
 -- ---- The registers
 
+-- only a step that waits has the number that says so
+pub waits_not : (g : Registers) (x : Change) → ((first : ℕ) → x ≡ Waits first → ⊥) → (moved g (Ok x)).how ≡ 2 → ⊥
+waits_not g (Moves m) n z = omega arith
+waits_not g Over n z = omega arith
+waits_not g (Waits first) n z = n first refl
+
 pub landed : {how row : ℕ} (g : Registers) → Standing g → row ≤ 128 → Landed (stays_in g how row)
 landed g f h = record { frame = f.frame; row = h; bottom = omega (arith, f.stays.floor_is, f.topped.low) }
+
+pub landed_on : {m : Moved} → Landed m → Landed (going m)
+landed_on h = record { frame = h.frame; row = h.row; bottom = h.bottom }
 
 -- the frame above
 pub framed_above : {fp : ℕ} → Framed fp → fp < 1984 → Framed (fp + 64)

@@ -6,6 +6,8 @@ use Rattle.state.specs.declared.Stay.{Stay}
 use Rattle.state.specs.declared.Moved.{Moved}
 use Rattle.across_frames.specs.declared.calls.Way.{Way}
 use Rattle.across_frames.specs.declared.calls.Way.TheVariants.{Call, Callvirt}
+use Rattle.across_frames.specs.declared.change.Change.{Change}
+use Rattle.across_frames.specs.declared.change.Change.TheVariants.{Moves, Over, Waits}
 use Rattle.across_frames.specs.declared.ending.Ending.{Ending}
 use Rattle.across_frames.specs.declared.ending.Ending.TheVariants.{NoObject, FramesUsed, ObjectsUsed, Cut, NoSuch, TooFew, NoRoom, Unfit}
 use Rattle.across_frames.specs.declared.registers.Registers.{Registers}
@@ -46,9 +48,15 @@ number_of TooFew = 43
 number_of NoRoom = 44
 number_of Unfit = 45
 
--- what a step came to: one that is refused ends in its frame
-abbrev pub moved : Registers → Result Moved Ending → Moved
-moved g (Ok m) = m
+-- the run goes on
+abbrev pub going : Moved → Moved
+going m = record { how = 0; at = m.at; sp = m.sp; fp = m.fp; row = m.row; made = m.made }
+
+-- the registers after a step: 1 is a return from the entry, 2 lets an initialiser come first, and a step that is refused ends in its frame
+abbrev pub moved : Registers → Result Change Ending → Moved
+moved g (Ok (Moves m)) = going m
+moved g (Ok Over) = stays_in g 1 g.row
+moved g (Ok (Waits first)) = stays_in g 2 first
 moved g (Err e) = stays_in g (number_of e) g.row
 
 -- what comes where nothing is refused

@@ -10,21 +10,13 @@ ghost use Rattle.across_frames.specs.Lent.{regs_in, on_leave, moved, unless, nam
 ghost use Rattle.across_frames.specs.declared.calls.Way.TheVariants.{Callvirt};
 
 use crate::arguments::{due, take};
+use crate::change::Change;
 use crate::ending::Ending;
 use crate::enter::{ROW, copy, enter, first_due};
 use crate::registers::Registers;
-use crate::tables::Tables;
+use crate::tables::{INITIALISER, INSTANCE, OBJECTS, Tables, VIRTUAL};
 use loaded::columns::{ARGUMENT_COUNT, METHOD_ROWS, OWNER, RETURN, ROOT, SORT};
-use state::Moved;
-use state::columns::{FRAME, LAST_FRAME, START};
-use state::fit::wide;
-
-// The sorts of methods that callvirt takes are 1 and 2, 2 being chosen by the object; `call` takes none of sort 4.
-const INSTANCE: u8 = 1;
-
-const VIRTUAL: u8 = 2;
-
-const INITIALISER: u8 = 4;
+use state::columns::{FRAME, LAST_FRAME};
 
 // The instruction that calls.
 #[derive(Clone, Copy, PartialEq, Eq)]
@@ -41,7 +33,7 @@ fn invoke(
     tables: &Tables,
     taken: usize,
     n: usize,
-) -> Result<Moved, Ending>
+) -> Result<Change, Ending>
     requires standing { Standing registers }
     requires row_ranges { RowRanges tables.now.methods.now }
     requires few { Few 128 tables.now.initialisers.now }
@@ -53,9 +45,9 @@ fn invoke(
         Leaves m.how m.row value (on_leave c (regs_of m) cells.new c.kinds marks.new c.classes) before
         (invoke_w tables.now.methods.now tables.now.initialisers.now before taken n)) }
 {
-    let class = wide(tables.methods[taken * ROW + OWNER]);
+    let class = tables.methods[taken * ROW + OWNER] as usize;
     if let Some(first) = first_due(marks, tables.initialisers, class) {
-        return Ok(registers.stays(START, first));
+        return Ok(Change::Waits(first));
     }
     if LAST_FRAME <= registers.stay.fp {
         return Err(Ending::FramesUsed);
@@ -63,7 +55,7 @@ fn invoke(
     marks[class] = 1;
     let from = registers.sp - n;
     copy(cells, from, registers.stay.fp + FRAME, n);
-    Ok(enter(
+    Ok(Change::Moves(enter(
         registers.stay,
         registers.at,
         from,
@@ -71,7 +63,7 @@ fn invoke(
         cells,
         tables.methods,
         taken,
-    ))
+    )))
 }
 
 // The row that callvirt takes where one is named, the first argument's bits being `object`: a virtual method's override.
@@ -96,9 +88,9 @@ fn chosen_row(
     if tables.methods[m + SORT] != VIRTUAL {
         return Ok(named);
     }
-    let place = ((object - 1) % 256) as usize;
-    let i = wide(classes[place]) * METHOD_ROWS + wide(tables.methods[m + ROOT]);
-    let overriding = wide(tables.chosen[i]);
+    let place = (object - 1) as usize % OBJECTS;
+    let i = classes[place] as usize * METHOD_ROWS + tables.methods[m + ROOT] as usize;
+    let overriding = tables.chosen[i] as usize;
     if overriding == 0 {
         return Ok(named);
     }
@@ -148,7 +140,7 @@ pub fn call(
     tables: &Tables,
     named: usize,
     way: Way,
-) -> Result<Moved, Ending>
+) -> Result<Change, Ending>
     requires standing { Standing registers }
     requires placed { Placed classes.now }
     requires named_range { (1 ≤ named) × (named ≤ 128) }
@@ -166,7 +158,7 @@ pub fn call(
     if !callable(tables.methods[m + SORT], way) {
         return Err(Ending::NoSuch);
     }
-    let n = wide(tables.methods[m + ARGUMENT_COUNT]);
+    let n = tables.methods[m + ARGUMENT_COUNT] as usize;
     let more = due(tables.methods[m + RETURN]);
     let from = take(registers, cells, kinds, classes, tables, named, n, 0, more)?;
     let taken = taken_row(classes, tables, named, cells[from], way)?;

@@ -8,11 +8,11 @@ ghost use Rattle.state.specs.Work.{Went, with_regs, with_cells, copy_of, clear a
 ghost use Rattle.state.specs.Meets.{Stays, Few, regs_of, Leaves};
 ghost use Rattle.across_frames.specs.Lent.{regs_at, regs_in, on_leave, moved, unless_due, RowRanges, Framed, Standing, Landed};
 
+use crate::change::Change;
 use crate::ending::Ending;
 use crate::registers::Registers;
 use loaded::columns::{LOCAL_COUNT, OWNER};
 use state::columns::{AT, DEPTH, FRAME, LAST_FRAME, LOCALS, METHOD, ON, STACK};
-use state::fit::wide;
 use state::{Moved, Stay};
 
 // How many bytes a method's row has.
@@ -100,7 +100,11 @@ pub fn enter(
     cells[y.fp + AT] = at as u64;
     cells[y.fp + DEPTH] = (sp - y.floor) as u64;
     cells[fp + METHOD] = row as u64;
-    clear(cells, fp + LOCALS, wide(methods[row * ROW + LOCAL_COUNT]));
+    clear(
+        cells,
+        fp + LOCALS,
+        methods[row * ROW + LOCAL_COUNT] as usize,
+    );
     Moved {
         how: ON,
         at: 0,
@@ -123,7 +127,7 @@ pub fn first_due(marks: &[u8; 33], initialisers: &[u8; 33], class: usize) -> Opt
     if marks[class] != 0 {
         return None;
     }
-    let first = wide(initialisers[class]);
+    let first = initialisers[class] as usize;
     if first == 0 {
         return None;
     }
@@ -137,7 +141,7 @@ pub fn start(
     marks: &mut [u8; 33],
     methods: &[u8; 4128],
     first: usize,
-) -> Result<Moved, Ending>
+) -> Result<Change, Ending>
     requires standing { Standing registers }
     requires first_at_most { first ≤ 128 }
     requires row_ranges { RowRanges methods.now }
@@ -151,9 +155,9 @@ pub fn start(
     if LAST_FRAME <= registers.stay.fp {
         return Err(Ending::FramesUsed);
     }
-    let class = wide(methods[first * ROW + OWNER]);
+    let class = methods[first * ROW + OWNER] as usize;
     marks[class] = 1;
-    Ok(enter(
+    Ok(Change::Moves(enter(
         registers.stay,
         registers.at,
         registers.sp,
@@ -161,5 +165,5 @@ pub fn start(
         cells,
         methods,
         first,
-    ))
+    )))
 }

@@ -7,13 +7,13 @@ ghost use Rattle.state.specs.Meets.{Placed, regs_of, Leaves};
 ghost use Rattle.across_frames.specs.Lent.{regs_in, on_leave, moved, LendsAll, opcode_of, InRange, Standing, Landed};
 
 use crate::calls::{Way, call};
+use crate::change::Change;
 use crate::ending::Ending;
 use crate::objects::newobj;
 use crate::registers::Registers;
 use crate::returns::ret;
 use crate::tables::Tables;
 use code::operands::{four_after, whole};
-use state::Moved;
 use state::columns::{CALLVIRT, NEWOBJ, RET};
 use state::tokens::row_named;
 
@@ -33,7 +33,7 @@ pub fn leave(
     marks: &mut [u8; 33],
     classes: &mut [u8; 256],
     tables: &Tables,
-) -> Result<Moved, Ending>
+) -> Result<Change, Ending>
     requires standing { Standing registers }
     requires at_range { (registers.at < length part.now) × (get_or part.now registers.at 0 ≡ opcode_of next) }
     requires saved { Saved 128 cells.old }

@@ -8,19 +8,14 @@ ghost use Rattle.state.specs.Meets.{Stays, Topped, Few, Placed, regs_of, Leaves}
 ghost use Rattle.across_frames.specs.Lent.{regs_at, regs_in, on_leave, moved, newobj_w, RowRanges, Framed, Standing, Landed};
 
 use crate::arguments::take;
+use crate::change::Change;
 use crate::ending::Ending;
 use crate::enter::{ROW, copy, enter, first_due};
 use crate::registers::Registers;
-use crate::tables::Tables;
+use crate::tables::{CONSTRUCTOR, OBJECTS, Tables};
 use loaded::columns::{ARGUMENT_COUNT, OWNER, SORT};
 use state::Moved;
-use state::columns::{FRAME, LAST_FRAME, START};
-use state::fit::wide;
-
-// As many objects as there are places.
-const OBJECTS: usize = 256;
-
-const CONSTRUCTOR: u8 = 3;
+use state::columns::{FRAME, LAST_FRAME};
 
 // An object of a class is made, and the frame of its constructor entered: n cells of the stack are arguments after the reference, which takes their place.
 fn construct(
@@ -73,7 +68,7 @@ pub fn newobj(
     classes: &mut [u8; 256],
     tables: &Tables,
     named: usize,
-) -> Result<Moved, Ending>
+) -> Result<Change, Ending>
     requires standing { Standing registers }
     requires placed { Placed classes.old }
     requires row_ranges { RowRanges tables.now.methods.now }
@@ -92,12 +87,12 @@ pub fn newobj(
         return Err(Ending::NoSuch);
     }
     // `this` is no argument on the stack
-    let n = wide(tables.methods[m + ARGUMENT_COUNT]).saturating_sub(1);
+    let n = (tables.methods[m + ARGUMENT_COUNT] as usize).saturating_sub(1);
     take(registers, cells, kinds, classes, tables, named, n, 1, 1)?;
     let owner = tables.methods[m + OWNER];
-    let class = wide(owner);
+    let class = owner as usize;
     if let Some(first) = first_due(marks, tables.initialisers, class) {
-        return Ok(registers.stays(START, first));
+        return Ok(Change::Waits(first));
     }
     if OBJECTS <= registers.made {
         return Err(Ending::ObjectsUsed);
@@ -106,7 +101,7 @@ pub fn newobj(
         return Err(Ending::FramesUsed);
     }
     marks[class] = 1;
-    Ok(construct(
+    Ok(Change::Moves(construct(
         registers,
         cells,
         kinds,
@@ -115,5 +110,5 @@ pub fn newobj(
         owner,
         named,
         n,
-    ))
+    )))
 }

@@ -2,7 +2,9 @@
 ghost use Rattle.std.specs.Prelude.{◌≡◌, Result};
 ghost use Rattle.across_frames.specs.Lent.{stays_in, moved};
 
+use crate::change::Change;
 use crate::ending::Ending;
+use state::columns::{ON, OVER, START};
 use state::{Moved, Stay};
 
 // The registers of a stay: the offset of its instruction, one past the stack's top, how many objects are made, and the method's row.
@@ -17,7 +19,7 @@ pub struct Registers {
 
 impl Registers {
     // A step that ends in its frame, or lets the initialiser `row` come first.
-    pub fn stays(self, how: u8, row: usize) -> Moved
+    fn stays(self, how: u8, row: usize) -> Moved
         ensures { result ≡ stays_in self how row }
     {
         Moved {
@@ -30,12 +32,14 @@ impl Registers {
         }
     }
 
-    // What a step came to: one that is refused ends in its frame.
-    pub fn after(self, step: Result<Moved, Ending>) -> Moved
+    // The registers after a step.
+    pub fn after(self, step: Result<Change, Ending>) -> Moved
         ensures { result ≡ moved self step }
     {
         match step {
-            Ok(moved) => moved,
+            Ok(Change::Moves(moved)) => Moved { how: ON, ..moved },
+            Ok(Change::Over) => self.stays(OVER, self.row),
+            Ok(Change::Waits(first)) => self.stays(START, first),
             Err(ending) => self.stays(u8::from(ending), self.row),
         }
     }

@@ -7,18 +7,17 @@ ghost use Rattle.state.specs.Order.{Saved};
 ghost use Rattle.state.specs.Meets.{Stays, Topped, Placed, regs_of, Leaves};
 ghost use Rattle.across_frames.specs.Lent.{regs_in, on_leave, back_to, moved, unless, Standing, Landed};
 
+use crate::change::Change;
 use crate::ending::Ending;
 use crate::registers::Registers;
-use crate::tables::Tables;
+use crate::tables::{INITIALISER, Tables};
 use loaded::columns::{RETURN, SORT};
 use state::Moved;
-use state::columns::{AT, DEPTH, FRAME, METHOD, ON, OVER, STACK};
+use state::columns::{AT, DEPTH, FRAME, METHOD, ON, STACK};
 use state::fit::fits;
 
 // An instruction that calls is 5 bytes long.
 const CALL_BYTES: usize = 5;
-
-const INITIALISER: u8 = 4;
 
 // Whether a value of a type's byte may be returned: the stack has to hold what is due and nothing more.
 fn returnable(
@@ -85,7 +84,7 @@ pub fn ret(
     kinds: &mut [u8; 2048],
     classes: &[u8; 256],
     tables: &Tables,
-) -> Result<Moved, Ending>
+) -> Result<Change, Ending>
     requires standing { Standing registers }
     requires saved { Saved 128 cells.old }
     requires placed { Placed classes.now }
@@ -101,16 +100,16 @@ pub fn ret(
     let byte = tables.methods[y.mp + RETURN];
     returnable(registers, cells, kinds, classes, tables.ancestors, byte)?;
     if y.fp == 0 {
-        return Ok(registers.stays(OVER, registers.row));
+        return Ok(Change::Over);
     }
     let p = y.fp - FRAME;
     let next = cells[p + AT] as usize + passed(tables.methods[y.mp + SORT]);
     let d = p + STACK + cells[p + DEPTH] as usize;
     let caller = cells[p + METHOD] as usize;
     if byte == 0 {
-        return Ok(back(p, caller, next, d, registers.made));
+        return Ok(Change::Moves(back(p, caller, next, d, registers.made)));
     }
     kinds[d] = kinds[y.floor];
     cells[d] = cells[y.floor];
-    Ok(back(p, caller, next, d + 1, registers.made))
+    Ok(Change::Moves(back(p, caller, next, d + 1, registers.made)))
 }

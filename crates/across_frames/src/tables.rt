@@ -1,5 +1,17 @@
 // What the steps that change the frame read.
 
+// How many objects there are at most.
+pub const OBJECTS: usize = 256;
+
+// The sorts of methods beside the static ones. callvirt takes an instance method as it is named, and a virtual one as its object has it.
+pub const INSTANCE: u8 = 1;
+
+pub const VIRTUAL: u8 = 2;
+
+pub const CONSTRUCTOR: u8 = 3;
+
+pub const INITIALISER: u8 = 4;
+
 #[derive(Clone, Copy)]
 pub struct Tables<'a> {
     // how many methods there are

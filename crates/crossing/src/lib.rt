@@ -9,6 +9,7 @@ ghost use Rattle.state.specs.Meets.{Placed, regs_of, Leaves};
 ghost use Rattle.across_frames.specs.Lent.{regs_at, regs_in, on_leave, moved, Lends, LendsAll, CallRanges, InRange, InFrame, Standing, Landed};
 ghost use Rattle.crossing.specs.Crossing.{crossing, Crosses};
 
+use across_frames::change::Change;
 use across_frames::ending::Ending;
 use across_frames::enter::start;
 use across_frames::leave::leave;
@@ -28,7 +29,7 @@ fn step(
     marks: &mut [u8; 33],
     classes: &mut [u8; 256],
     tables: &Tables,
-) -> Result<Moved, Ending>
+) -> Result<Change, Ending>
     requires standing { Standing registers }
     requires saved { Saved 128 cells.old }
     requires placed { Placed classes.old }
@@ -46,11 +47,10 @@ fn step(
     if next == START {
         return start(registers, cells, marks, tables.methods, first);
     }
-    let moved = leave(next, registers, part, cells, kinds, marks, classes, tables)?;
-    if moved.how != START {
-        return Ok(moved);
+    match leave(next, registers, part, cells, kinds, marks, classes, tables)? {
+        Change::Waits(first) => start(registers, cells, marks, tables.methods, first),
+        change => Ok(change),
     }
-    start(registers, cells, marks, tables.methods, moved.row)
 }
 
 // `next` says which: ret, call, callvirt, newobj, or the frame of the initialiser `first`. Where such a step has to wait for an initialiser, that

@@ -16,9 +16,9 @@ returns-in_err-returnable-clause-leaves c = λ w.
     rw (p.1, p.2) (ends _ (c.in_err-returnable.ensures b c.args.tables.now.methods.now refl refl))
 
 pub returns-then-y-eq0-clause-leaves : goal.returns-then-y-eq0-clause-leaves
-returns-then-y-eq0-clause-leaves c = rw c.stays.ensures (λ w.
+returns-then-y-eq0-clause-leaves c = λ w.
     let b = on_leave w (regs_in c.args.registers) c.args.cells.now c.args.kinds.now w.marks c.args.classes.now in
-    finished (c.in_ok-returnable.ensures b c.args.tables.now.methods.now refl refl ∙ return_over _ _ _ c.if-y-eq0.true))
+    finished (c.in_ok-returnable.ensures b c.args.tables.now.methods.now refl refl ∙ return_over _ _ _ c.if-y-eq0.true)
 
 pub overflow_add-next-2 : goal.overflow_add-next-2
 overflow_add-next-2 c = omega (arith, below_at c.requires.standing.frame c.requires.saved c.if-y-eq0.false, c.passed.ensures.1)
