@@ -1,16 +1,9 @@
 // The ancestor test, which loading and the check share.
 #![tactic(auto)]
 
-ghost use Rattle.std.specs.Prelude.{◌≡◌, List, ℕ, ◌<◌};
+ghost use Rattle.std.specs.Prelude.{◌≡◌, List, ℕ};
 ghost use Rattle.model.specs.Tables.{descends as descends_of};
 ghost use Rattle.ancestor.specs.Parents.{Parents};
-
-// A byte as a number, with its range.
-fn wide(x: u8) -> usize
-    ensures { (result ≡ x) × (result < 256) }
-{
-    x as usize
-}
 
 // Whether class row c is d or descends from it: from row to parent row, which always falls.
 pub fn descends(parents: &[u8; 33], c: usize, d: usize) -> bool
@@ -22,10 +15,10 @@ pub fn descends(parents: &[u8; 33], c: usize, d: usize) -> bool
     if c == d {
         return true;
     }
-    if 32 < c {
+    if parents.len() <= c {
         return false;
     }
-    let up = wide(parents[c]);
+    let up = parents[c] as usize;
     if c <= up {
         return false;
     }

@@ -1,21 +1,19 @@
 -- Which record a kind's bytes are.
-use mathlib.Core.Path.{◌≡◌, refl, sym, ap, ◌∙◌, subst}
-use Prim.Native.Nat.{ℕ, zero, suc, ◌+◌, ◌≤◌, ◌<◌}
-use mathlib.Core.Bool.{Bool, true, false}
-use mathlib.Core.Option.{some}
+use mathlib.Core.Path.{◌≡◌, sym, ap, ◌∙◌, subst}
+use Prim.Native.Nat.{ℕ, ◌+◌, ◌≤◌}
 use mathlib.Core.List.{List}
 use native.Mathlib.Omega.{arith}
 use lib.ListN.{get_or, drop}
 use lib.Seq.{get_or-drop, drop-drop}
-use borrow.Author.Tests.{ne_eqb, le-leb, lt-leb}
-use lib.Dec.{leb}
 use Rattle.model.specs.Answer.{Answer, pick, only_if, or_else}
-use Rattle.model.specs.Operators.{flag as bit}
 use Rattle.model.specs.Loading.{Loading, little, body_bytes, class_record, field_record, method_record, param_record, local_record, entry_record, one_record}
 use Rattle.loader.specs.declared.method.Body.{Body}
 use Rattle.loader.specs.Body.{body_of}
 use Rattle.std.specs.Prelude.{Result, ⊤}
 use Rattle.loader.specs.declared.refusal.Refusal.{Refusal}
+use Rattle.loader.specs.declared.kind.Kind.{Kind}
+use Rattle.loader.specs.declared.kind.Kind.TheVariants.{Class, Field, Method, Parameter, Local, Entry}
+use Rattle.loader.specs.Kinds.{kind_byte}
 use Rattle.loader.specs.Goes.{Goes}
 
 pub same_record : {A : Type 0} (m k : Answer ℕ A) → m ≡ k → (r : Result ⊤ Refusal) (P : A → Type 0) → Goes k r P → Goes m r P
@@ -23,40 +21,22 @@ same_record m k e r P h = subst (λ (x : Answer ℕ _). Goes x r P) (sym e) h
 
 -- ---- Sizes
 
-pub three_bytes : (k : ℕ) → k ≡ 2 → or_else (body_bytes k) 0 ≡ 3
-unfolding body_bytes or_else pick
-three_bytes k e = ap (λ (i : ℕ). or_else (body_bytes i) 0) e
-
-pub eleven_bytes : (k : ℕ) → k ≡ 3 → or_else (body_bytes k) 0 ≡ 11
-unfolding body_bytes or_else pick
-eleven_bytes k e = ap (λ (i : ℕ). or_else (body_bytes i) 0) e
-
--- from 4 on a record has one byte, up to 6
-later_bytes : (k : ℕ) → 3 < k → (b : Bool) → leb k 6 ≡ b → or_else (body_bytes k) 0 ≡ bit b
-unfolding body_bytes or_else pick only_if bit
-later_bytes k h b e =
-    simp (ne_eqb k 1 (λ z. omega arith), ne_eqb k 2 (λ z. omega arith), ne_eqb k 3 (λ z. omega arith), le-leb 4 k h) (ap (λ (x : Bool). or_else (only_if x (some 1)) 0) e ∙ go b)
-  where
-    go : (b : Bool) → or_else (only_if b (some 1)) 0 ≡ bit b
-    go true = refl
-    go false = refl
-
-pub no_bytes : (k : ℕ) → 6 < k → 0 ≡ or_else (body_bytes k) 0
-unfolding bit
-no_bytes k h = sym (later_bytes k (omega arith) false (lt-leb k 6 h))
-
-pub one_byte : (k : ℕ) → 3 < k → k ≤ 6 → 1 ≡ or_else (body_bytes k) 0
-unfolding bit
-one_byte k h l = sym (later_bytes k h true (le-leb k 6 l))
-
--- a record of an earlier kind that is no class or field is a method's
-pub third : (k : ℕ) → k ≤ 3 → (k ≡ 1 → ⊥) → (k ≡ 2 → ⊥) → 1 ≤ or_else (body_bytes k) 0 → k ≡ 3
+pub one_byte : (k : Kind) → 1 ≤ or_else (body_bytes (kind_byte k)) 0
 unfolding body_bytes or_else pick only_if
-third zero h a b l = absurd (omega arith)
-third (suc zero) h a b l = absurd (a refl)
-third (suc (suc zero)) h a b l = absurd (b refl)
-third (suc (suc (suc zero))) h a b l = refl
-third (suc (suc (suc (suc k)))) h a b l = absurd (omega arith)
+one_byte Class = omega arith
+one_byte Field = omega arith
+one_byte Method = omega arith
+one_byte Parameter = omega arith
+one_byte Local = omega arith
+one_byte Entry = omega arith
+
+pub three_bytes : (k : Kind) → k ≡ Field → or_else (body_bytes (kind_byte k)) 0 ≡ 3
+unfolding body_bytes or_else pick
+three_bytes k e = ap (λ (i : Kind). or_else (body_bytes (kind_byte i)) 0) e
+
+pub eleven_bytes : (k : Kind) → k ≡ Method → or_else (body_bytes (kind_byte k)) 0 ≡ 11
+unfolding body_bytes or_else pick
+eleven_bytes k e = ap (λ (i : Kind). or_else (body_bytes (kind_byte i)) 0) e
 
 -- ---- Bodies
 
@@ -103,6 +83,6 @@ module _ (code : List ℕ) (L : Loading) (t : List ℕ) (at k : ℕ) where
   unfolding one_record pick
   one_local e = ap (λ (x : ℕ). one_record code L at x (drop 1 (drop at t))) e ∙ ap (local_record L) first_byte
 
-  pub one_entry : (k ≡ 1 → ⊥) → (k ≡ 2 → ⊥) → (k ≡ 3 → ⊥) → (k ≡ 4 → ⊥) → (k ≡ 5 → ⊥) → one_record code L at k (drop 1 (drop at t)) ≡ entry_record L (get_or t (at + 1) 0)
+  pub one_entry : k ≡ 6 → one_record code L at k (drop 1 (drop at t)) ≡ entry_record L (get_or t (at + 1) 0)
   unfolding one_record pick
-  one_entry a b c d e = simp (ne_eqb k 1 a, ne_eqb k 2 b, ne_eqb k 3 c, ne_eqb k 4 d, ne_eqb k 5 e) (ap (entry_record L) first_byte)
+  one_entry e = ap (λ (x : ℕ). one_record code L at x (drop 1 (drop at t))) e ∙ ap (entry_record L) first_byte

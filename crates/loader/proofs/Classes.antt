@@ -14,7 +14,10 @@ use Rattle.model.specs.Tables.{parent_of, climbs, descends, Field, is_static_fie
 use Rattle.model.specs.Loading.{Loading, follows, parent_fits, class_record}
 use Rattle.loaded.specs.declared.Counts.{Counts}
 use Rattle.loaded.specs.declared.Loaded.{Loaded}
-use Rattle.loader.specs.declared.order.Notes.{Notes}
+use Rattle.loader.specs.declared.notes.Notes.{Notes}
+use Rattle.std.specs.Prelude.{Some}
+use Rattle.loader.specs.declared.kind.Kind.TheVariants.{Class}
+use Rattle.loader.specs.Kinds.{last_byte}
 use Rattle.loader.specs.Goes.{Goes}
 use Rattle.loader.specs.Allowed.{class_allowed}
 use Rattle.loaded.specs.Holds.{from_row}
@@ -105,12 +108,12 @@ class_in N n p = record {
 
 abbrev pub ClassTo : List ℕ → Loading → Loaded → Notes → ℕ → Counts → ℕ → Type 0
 ClassTo code L N S p n last =
-    Goes (class_record L p) (class_allowed last n.classes p) (λ K. Stands code K (class_in N n p) (record { last = 1; own = S.own; places = S.places }))
+    Goes (class_record L p) (class_allowed last n.classes p) (λ K. Stands code K (class_in N n p) (record { last = Some Class; own = S.own; places = S.places }))
 
-pub class_goes : (code : List ℕ) (L : Loading) (N : Loaded) (S : Notes) (p : ℕ) → Stands code L N S → ClassTo code L N S p N.counts S.last
+pub class_goes : (code : List ℕ) (L : Loading) (N : Loaded) (S : Notes) (p : ℕ) → Stands code L N S → ClassTo code L N S p N.counts (last_byte S.last)
 unfolding class_record class_allowed counts_of follows pick
 class_goes code L N S p Z =
-    subst (λ (n : Counts). ClassTo code L N S p n S.last) (sym Z.counted)
+    subst (λ (n : Counts). ClassTo code L N S p n (last_byte S.last)) (sym Z.counted)
     (subst (ClassTo code L N S p (counts_of L)) (sym Z.last)
     (goes_guard (leb L.last 1) 3 _ _ _ _ refl (omega arith) (omega arith) λ a.
     goes_guard (parent_fits (length L.parents) p) 4 _ _ _ _ refl (omega arith) (omega arith) λ b.

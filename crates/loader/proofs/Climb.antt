@@ -11,7 +11,7 @@ use Rattle.model.specs.Answer.{or_else, those, keep_if}
 use Rattle.model.specs.Tables.{parent_of, descends, Field, Method, is_own, layout_up, layout, is_static_field}
 use Rattle.model.specs.Loading.{Loading, little}
 use Rattle.loaded.specs.declared.Loaded.{Loaded}
-use Rattle.loader.specs.declared.order.Notes.{Notes}
+use Rattle.loader.specs.declared.notes.Notes.{Notes}
 use Rattle.loader.specs.declared.method.Body.{Body}
 use Rattle.loader.specs.Body.{body_of}
 use Rattle.loader.specs.Stands.{ClassRows, FieldRows, Sound, MethodCells, Stands, counts_of, Fine, Small, Earlier}

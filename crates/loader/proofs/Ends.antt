@@ -8,7 +8,6 @@ use mathlib.Core.List.{List, [], ◌∷◌}
 use native.Mathlib.Omega.{arith}
 use lib.ListN.{length, get_or}
 use lib.Dec.{leb, eqb}
-use borrow.Author.Tests.{eq-eqb, ne_eqb}
 use Rattle.model.specs.Answer.{Answer, bad, ok, ◌>>=◌, guard, pick, or_else, at, row, first_row}
 use Rattle.model.specs.Tables.{Method, Module, part_of, method_at, parent_of}
 use Rattle.model.specs.Loading.{Loading, Refusal, refusal, nothing, records, differs, agreed, load}
@@ -16,9 +15,9 @@ use Rattle.loaded.specs.declared.Fault.{Fault}
 use Rattle.loaded.specs.declared.Counts.{Counts}
 use Rattle.loaded.specs.declared.Loaded.{Loaded}
 use Rattle.loaded.specs.Holds.{Holds}
-use Rattle.loader.specs.declared.order.Notes.{Notes}
-use Rattle.loader.specs.Refusals.{fault_of}
-use Rattle.loader.specs.Answers.{Answers}
+use Rattle.loader.specs.declared.notes.Notes.{Notes}
+use Rattle.loader.specs.Kinds.{last_byte}
+use Rattle.loader.specs.Answers.{Answers, fault_of}
 use Rattle.loader.specs.Stands.{field_column, field_at, method_column, root_at, method_cell, part_cell, MethodCells, Sound, Stands, counts_of, Earlier}
 use Rattle.loader.proofs.Rows.{first_least}
 use Rattle.loader.proofs.Methods.{argument_column, local_column}
@@ -176,7 +175,7 @@ module _ (tables code : List ℕ) where
       low_methods = let w = taken in low_overrides w.2.methods.sound w.2.methods.few w.2.methods.cell
 
       -- 3: no entry
-      pub ends_open : (S.last ≡ 6 → ⊥) → (a : Fault) → a ≡ fault_of (refused_at (length tables) 3) → {V : Type 0} (loaded : V → Module → Type 0) → Answers (load tables code) (Err a) ⊤ loaded
+      pub ends_open : eqb (last_byte S.last) 6 ≡ false → (a : Fault) → a ≡ fault_of (refused_at (length tables) 3) → {V : Type 0} (loaded : V → Module → Type 0) → Answers (load tables code) (Err a) ⊤ loaded
       unfolding ◌>>=◌ after guard
       ends_open n a ea loaded =
           let w = taken in
@@ -184,9 +183,9 @@ module _ (tables code : List ℕ) where
           (opened
           ∙ ap (λ (x : Answer Refusal Loading). x >>= after) w.1
           ∙ ap (λ (b : Bool). guard b (refused_at (length tables) 3) >>= λ _. agreed w.0 (first_row (differs w.0.methods) 1 w.0.methods) >>= λ _. ok (record { parents = w.0.parents; fields = w.0.fields; methods = w.0.methods; entry = w.0.entry }))
-          (ne_eqb w.0.last 6 (λ e. n (w.2.last ∙ e)))) (omega arith) a ea loaded
+          (ap (λ (i : ℕ). eqb i 6) (sym w.2.last) ∙ n)) (omega arith) a ea loaded
 
-      module _ (six : S.last ≡ 6) (k : ℕ)
+      module _ (six : eqb (last_byte S.last) 6 ≡ true) (k : ℕ)
           (first : (buffer : List ℕ) (ms : List Method) → N.counts.methods ≡ length ms → Sound buffer ms → MethodCells ms N.methods → k ≡ or_else (first_row (differs ms) 1 ms) 0) where
         found : k ≡ or_else (first_row (differs taken.0.methods) 1 taken.0.methods) 0
         unfolding counts_of
@@ -200,7 +199,7 @@ module _ (tables code : List ℕ) where
             opened
             ∙ ap (λ (x : Answer Refusal Loading). x >>= after) w.1
             ∙ ap (λ (b : Bool). guard b (refused_at (length tables) 3) >>= λ _. agreed w.0 (first_row (differs w.0.methods) 1 w.0.methods) >>= λ _. ok (record { parents = w.0.parents; fields = w.0.fields; methods = w.0.methods; entry = w.0.entry }))
-            (eq-eqb w.0.last 6 (sym w.2.last ∙ six))
+            (ap (λ (i : ℕ). eqb i 6) (sym w.2.last) ∙ six)
             ∙ ap (λ (o : Option ℕ). agreed w.0 o >>= λ _. ok (record { parents = w.0.parents; fields = w.0.fields; methods = w.0.methods; entry = w.0.entry })) f
 
         -- 7: at the lowest method that differs from what it overrides

@@ -16,11 +16,13 @@ use Rattle.model.specs.Tables.{Ty, byte_of, parent_of, Field, is_own, layout_up,
 use Rattle.model.specs.Loading.{Loading, follows, within, no_field, field_room, field_record}
 use Rattle.model.specs.Operators.{flag as bit}
 use Rattle.loaded.specs.Holds.{from_row}
-use Rattle.std.specs.Prelude.{Ok, Err}
+use Rattle.std.specs.Prelude.{Some, Ok, Err}
 use Rattle.loaded.specs.declared.Counts.{Counts}
 use Rattle.loaded.specs.declared.Loaded.{Loaded}
-use Rattle.loader.specs.declared.order.Notes.{Notes}
+use Rattle.loader.specs.declared.notes.Notes.{Notes}
 use Rattle.loader.specs.declared.refusal.Refusal.TheVariants.{Order, Range, TooMany}
+use Rattle.loader.specs.declared.kind.Kind.TheVariants.{Field as FieldKind}
+use Rattle.loader.specs.Kinds.{last_byte}
 use Rattle.loader.specs.Goes.{Goes}
 use Rattle.loader.specs.Allowed.{is_type, slot_room, field_allowed}
 use Rattle.loader.specs.Stands.{Grid, stored, field_column, field_at, field_cells, FieldRows, Stands, counts_of}
@@ -229,7 +231,7 @@ field_in N n f flag =
     record { counts = counted_field n flag; parents = N.parents; initialisers = N.initialisers; fields = f; methods = N.methods; parts = N.parts }
 
 abbrev pub field_noted : Notes → ℕ → ℕ → Notes
-field_noted S o flag = record { last = 2; own = set S.own o (get_or S.own o 0 + (1 - flag)); places = S.places }
+field_noted S o flag = record { last = Some FieldKind; own = set S.own o (get_or S.own o 0 + (1 - flag)); places = S.places }
 
 abbrev pub FieldTo : List ℕ → Loading → Loaded → Notes → ℕ → ℕ → ℕ → ℕ → Counts → ℕ → Type 0
 FieldTo code L N S o flag t s n last =
@@ -237,10 +239,10 @@ FieldTo code L N S o flag t s n last =
     Stands code K (field_in N n (stored 4 (n.fields + 1) N.fields (field_cells o flag t s)) flag) (field_noted S o flag))
 
 pub field_goes : (code : List ℕ) (L : Loading) (N : Loaded) (S : Notes) (o flag t s : ℕ) → Stands code L N S
-    → s ≡ pick (eqb flag 1) (length (those is_static_field L.fields)) (length (layout L.parents L.fields o)) → FieldTo code L N S o flag t s N.counts S.last
+    → s ≡ pick (eqb flag 1) (length (those is_static_field L.fields)) (length (layout L.parents L.fields o)) → FieldTo code L N S o flag t s N.counts (last_byte S.last)
 unfolding field_record field_allowed counts_of is_type field_room
 field_goes code L N S o flag t s Z sl =
-    subst (λ (n : Counts). FieldTo code L N S o flag t s n S.last) (sym Z.counted)
+    subst (λ (n : Counts). FieldTo code L N S o flag t s n (last_byte S.last)) (sym Z.counted)
     (subst (FieldTo code L N S o flag t s (counts_of L)) (sym Z.last)
     (subst (λ (b : ℕ). Goes (field_record L o flag t) (field_allowed L.last b (length L.parents) (length L.fields) o flag t s) P) (sym (last_owner L.parents L.fields Z.fields.cell))
     (subst (λ (b : Bool). Goes (field_record L o flag t) (pick (follows L.last 2 && leb (last_of no_field L.fields).owner o) (pick (within 1 (length L.parents) o) (pick (leb flag 1) (pick (not (is_none (type_at (length L.parents) t))) (pick b (Ok tt) (Err TooMany)) (Err Range)) (Err Range)) (Err Range)) (Err Order)) P)
@@ -278,7 +280,7 @@ field_goes code L N S o flag t s Z sl =
 -- with the rows as the code has them
 pub field_taken : (code : List ℕ) (L : Loading) (N : Loaded) (S : Notes) (o flag t s : ℕ) → Stands code L N S
     → s ≡ pick (eqb flag 1) (length (those is_static_field L.fields)) (length (layout L.parents L.fields o))
-    → Ok tt ≡ field_allowed S.last (get_or N.fields (N.counts.fields * 4 + 0) 0) N.counts.classes N.counts.fields o flag t s
+    → Ok tt ≡ field_allowed (last_byte S.last) (get_or N.fields (N.counts.fields * 4 + 0) 0) N.counts.classes N.counts.fields o flag t s
     → (f : List ℕ) → f ≡ stored 4 (N.counts.fields + 1) N.fields (field_cells o flag t s)
     → Goes (field_record L o flag t) (Ok tt) (λ K. Stands code K (field_in N N.counts f flag) (field_noted S o flag))
 field_taken code L N S o flag t s Z sl q f e =

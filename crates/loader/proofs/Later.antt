@@ -12,11 +12,14 @@ use borrow.Author.Tests.{ltb-true, eqb-true, eqb-false, eq-eqb, ne_eqb}
 use Rattle.model.specs.Answer.{pick, is_none, at, on_last}
 use Rattle.model.specs.Tables.{Ty, byte_of, Sort, initialiser, sort_byte, is_sort, Method, part_of, method_at, arguments, type_at}
 use Rattle.model.specs.Loading.{Loading, follows, within, latest, with_param, with_local, on_latest, param_record, local_record, entry_record}
-use Rattle.std.specs.Prelude.{Ok}
+use Rattle.std.specs.Prelude.{Some, Ok}
 use Rattle.loaded.specs.declared.Counts.{Counts}
 use Rattle.loaded.specs.declared.Loaded.{Loaded}
-use Rattle.loader.specs.declared.order.Notes.{Notes}
+use Rattle.loader.specs.declared.notes.Notes.{Notes}
 use Rattle.loaded.specs.Holds.{byte_at}
+use Rattle.loader.specs.declared.kind.Kind.{Kind}
+use Rattle.loader.specs.declared.kind.Kind.TheVariants.{Parameter, Local, Entry}
+use Rattle.loader.specs.Kinds.{kind_byte, last_byte}
 use Rattle.loader.specs.Goes.{Goes}
 use Rattle.loader.specs.Rules.{EntryRule}
 use Rattle.loader.specs.Allowed.{is_type, param_allowed, local_allowed, entry_allowed}
@@ -218,21 +221,21 @@ latest_is L = latest_at L.methods
 abbrev pub rows_in : Loaded → List ℕ → Loaded
 rows_in N m = record { counts = N.counts; parents = N.parents; initialisers = N.initialisers; fields = N.fields; methods = m; parts = N.parts }
 
-abbrev pub noted : Notes → ℕ → Notes
-noted S k = record { last = k; own = S.own; places = S.places }
+abbrev pub noted : Notes → Kind → Notes
+noted S k = record { last = Some k; own = S.own; places = S.places }
 
 abbrev pub ParamTo : List ℕ → Loading → Loaded → Notes → ℕ → Counts → ℕ → Type 0
 ParamTo code L N S t n last =
     Goes (param_record L t) (param_allowed last n.classes t (get_or N.methods (n.methods * 32 + 28) 0) (get_or N.methods (n.methods * 32 + 24) 0)) (λ K.
-    Stands code K (rows_in N (stored 32 n.methods N.methods (param_cells (get_or N.methods (n.methods * 32 + 28) 0) t))) (noted S 4))
+    Stands code K (rows_in N (stored 32 n.methods N.methods (param_cells (get_or N.methods (n.methods * 32 + 28) 0) t))) (noted S Parameter))
 
 abbrev pub LocalTo : List ℕ → Loading → Loaded → Notes → ℕ → Counts → ℕ → Type 0
 LocalTo code L N S t n last =
     Goes (local_record L t) (local_allowed last n.classes t (get_or N.methods (n.methods * 32 + 29) 0)) (λ K.
-    Stands code K (rows_in N (stored 32 n.methods N.methods (local_cells (get_or N.methods (n.methods * 32 + 29) 0) t))) (noted S 5))
+    Stands code K (rows_in N (stored 32 n.methods N.methods (local_cells (get_or N.methods (n.methods * 32 + 29) 0) t))) (noted S Local))
 
 module _ (code : List ℕ) (L : Loading) (N : Loaded) (S : Notes) (Z : Stands code L N S) where
-  later : (k : ℕ) (f : Method → Method) (b : List ℕ) → 3 ≤ L.last → L.last ≤ 5 → 3 ≤ k → MethodRows code (on_last f L.methods) N.initialisers b N.parts → Stands code (on_latest k f L) (rows_in N b) (noted S k)
+  later : (k : Kind) (f : Method → Method) (b : List ℕ) → 3 ≤ L.last → L.last ≤ 5 → 3 ≤ kind_byte k → MethodRows code (on_last f L.methods) N.initialisers b N.parts → Stands code (on_latest (kind_byte k) f L) (rows_in N b) (noted S k)
   unfolding on_latest counts_of
   later k f b lo hi three R = record {
     counted = Z.counted ∙ cc (length_last f L.methods);
@@ -246,10 +249,10 @@ module _ (code : List ℕ) (L : Loading) (N : Loaded) (S : Notes) (Z : Stands co
     begun = λ p q. subst (λ (n : ℕ). 0 < n) (sym (length_last f L.methods)) (Z.begun lo hi);
   }
 
-  pub param_goes : (t : ℕ) → ParamTo code L N S t N.counts S.last
+  pub param_goes : (t : ℕ) → ParamTo code L N S t N.counts (last_byte S.last)
   unfolding param_record param_allowed counts_of is_type follows pick
   param_goes t =
-      subst (λ (n : Counts). ParamTo code L N S t n S.last) (sym Z.counted)
+      subst (λ (n : Counts). ParamTo code L N S t n (last_byte S.last)) (sym Z.counted)
       (subst (ParamTo code L N S t (counts_of L)) (sym Z.last)
       (goes_guard (within 3 4 L.last) 3 _ _ _ _ refl (omega arith) (omega arith) λ x.
       goes_need (type_at (length L.parents) t) 4 _ _ _ _ refl (omega arith) (omega arith) λ u b.
@@ -259,14 +262,14 @@ module _ (code : List ℕ) (L : Loading) (N : Loaded) (S : Notes) (Z : Stands co
       let w = within_true 3 4 L.last x in
       let few : length (arguments (latest L)) < 8 = ltb-true (length (arguments (latest L))) 8 c in
       let n = latest_count L Z.methods.cell in
-      later 4 (with_param u) _ w.0 (omega (arith, w.1)) (omega arith)
+      later Parameter (with_param u) _ w.0 (omega (arith, w.1)) (omega arith)
       (param_rows code L.methods N.initialisers N.methods N.parts Z.methods (Z.begun w.0 (omega (arith, w.1))) u t (type_byte (length L.parents) t u b) _
       (n ∙ ap (λ (m : Method). length (arguments m)) (latest_is L)) (omega arith)))))
 
-  pub local_goes : (t : ℕ) → LocalTo code L N S t N.counts S.last
+  pub local_goes : (t : ℕ) → LocalTo code L N S t N.counts (last_byte S.last)
   unfolding local_record local_allowed counts_of is_type follows pick
   local_goes t =
-      subst (λ (n : Counts). LocalTo code L N S t n S.last) (sym Z.counted)
+      subst (λ (n : Counts). LocalTo code L N S t n (last_byte S.last)) (sym Z.counted)
       (subst (LocalTo code L N S t (counts_of L)) (sym Z.last)
       (goes_guard (within 3 5 L.last) 3 _ _ _ _ refl (omega arith) (omega arith) λ x.
       goes_need (type_at (length L.parents) t) 4 _ _ _ _ refl (omega arith) (omega arith) λ u b.
@@ -275,23 +278,23 @@ module _ (code : List ℕ) (L : Loading) (N : Loaded) (S : Notes) (Z : Stands co
       let w = within_true 3 5 L.last x in
       let few : length (latest L).locals < 16 = ltb-true (length (latest L).locals) 16 c in
       let n = latest_locals L Z.methods.cell in
-      later 5 (with_local u) _ w.0 w.1 (omega arith)
+      later Local (with_local u) _ w.0 w.1 (omega arith)
       (local_rows code L.methods N.initialisers N.methods N.parts Z.methods (Z.begun w.0 w.1) u t (type_byte (length L.parents) t u b) _
       (n ∙ ap (λ (m : Method). length m.locals) (latest_is L)) (omega arith)))))
 
   -- with the values as the code has them
-  pub param_taken : (t : ℕ) → Ok tt ≡ param_allowed S.last N.counts.classes t (get_or N.methods (N.counts.methods * 32 + 28) 0) (get_or N.methods (N.counts.methods * 32 + 24) 0) → (w : ℕ) → w ≡ get_or N.methods (N.counts.methods * 32 + 28) 0
-      → Goes (param_record L t) (Ok tt) (λ K. Stands code K (rows_in N (set (set N.methods (N.counts.methods * 32 + 28) (get_or N.methods (N.counts.methods * 32 + 28) 0 + 1)) (N.counts.methods * 32 + w) t)) (noted S 4))
+  pub param_taken : (t : ℕ) → Ok tt ≡ param_allowed (last_byte S.last) N.counts.classes t (get_or N.methods (N.counts.methods * 32 + 28) 0) (get_or N.methods (N.counts.methods * 32 + 24) 0) → (w : ℕ) → w ≡ get_or N.methods (N.counts.methods * 32 + 28) 0
+      → Goes (param_record L t) (Ok tt) (λ K. Stands code K (rows_in N (set (set N.methods (N.counts.methods * 32 + 28) (get_or N.methods (N.counts.methods * 32 + 28) 0 + 1)) (N.counts.methods * 32 + w) t)) (noted S Parameter))
   unfolding stored
   param_taken t q w ew =
-      subst (λ (i : ℕ). Goes (param_record L t) (Ok tt) (λ K. Stands code K (rows_in N (set (set N.methods (N.counts.methods * 32 + 28) (get_or N.methods (N.counts.methods * 32 + 28) 0 + 1)) (N.counts.methods * 32 + i) t)) (noted S 4))) (sym ew)
+      subst (λ (i : ℕ). Goes (param_record L t) (Ok tt) (λ K. Stands code K (rows_in N (set (set N.methods (N.counts.methods * 32 + 28) (get_or N.methods (N.counts.methods * 32 + 28) 0 + 1)) (N.counts.methods * 32 + i) t)) (noted S Parameter))) (sym ew)
       (accept _ _ _ q (param_goes t))
 
-  pub local_taken : (t : ℕ) → Ok tt ≡ local_allowed S.last N.counts.classes t (get_or N.methods (N.counts.methods * 32 + 29) 0) → (w : ℕ) → w ≡ get_or N.methods (N.counts.methods * 32 + 29) 0
-      → Goes (local_record L t) (Ok tt) (λ K. Stands code K (rows_in N (set (set N.methods (N.counts.methods * 32 + 29) (get_or N.methods (N.counts.methods * 32 + 29) 0 + 1)) (N.counts.methods * 32 + (8 + w)) t)) (noted S 5))
+  pub local_taken : (t : ℕ) → Ok tt ≡ local_allowed (last_byte S.last) N.counts.classes t (get_or N.methods (N.counts.methods * 32 + 29) 0) → (w : ℕ) → w ≡ get_or N.methods (N.counts.methods * 32 + 29) 0
+      → Goes (local_record L t) (Ok tt) (λ K. Stands code K (rows_in N (set (set N.methods (N.counts.methods * 32 + 29) (get_or N.methods (N.counts.methods * 32 + 29) 0 + 1)) (N.counts.methods * 32 + (8 + w)) t)) (noted S Local))
   unfolding stored
   local_taken t q w ew =
-      subst (λ (i : ℕ). Goes (local_record L t) (Ok tt) (λ K. Stands code K (rows_in N (set (set N.methods (N.counts.methods * 32 + 29) (get_or N.methods (N.counts.methods * 32 + 29) 0 + 1)) (N.counts.methods * 32 + (8 + i)) t)) (noted S 5))) (sym ew)
+      subst (λ (i : ℕ). Goes (local_record L t) (Ok tt) (λ K. Stands code K (rows_in N (set (set N.methods (N.counts.methods * 32 + 29) (get_or N.methods (N.counts.methods * 32 + 29) 0 + 1)) (N.counts.methods * 32 + (8 + i)) t)) (noted S Local))) (sym ew)
       (accept _ _ _ q (local_goes t))
 
 -- the module after the entry
@@ -306,12 +309,12 @@ entry_in N n r = record {
 }
 
 abbrev pub EntryTo : List ℕ → Loading → Loaded → Notes → ℕ → Bool → Counts → ℕ → Type 0
-EntryTo code L N S r fits n last = Goes (entry_record L r) (entry_allowed last n.methods r fits) (λ K. Stands code K (entry_in N n r) (noted S 6))
+EntryTo code L N S r fits n last = Goes (entry_record L r) (entry_allowed last n.methods r fits) (λ K. Stands code K (entry_in N n r) (noted S Entry))
 
-pub entry_goes : (code : List ℕ) (L : Loading) (N : Loaded) (S : Notes) → Stands code L N S → (r : ℕ) (fits : Bool) → EntryRule L r fits → EntryTo code L N S r fits N.counts S.last
+pub entry_goes : (code : List ℕ) (L : Loading) (N : Loaded) (S : Notes) → Stands code L N S → (r : ℕ) (fits : Bool) → EntryRule L r fits → EntryTo code L N S r fits N.counts (last_byte S.last)
 unfolding entry_record entry_allowed counts_of EntryRule
 entry_goes code L N S Z r fits rule =
-    subst (λ (n : Counts). EntryTo code L N S r fits n S.last) (sym Z.counted)
+    subst (λ (n : Counts). EntryTo code L N S r fits n (last_byte S.last)) (sym Z.counted)
     (subst (EntryTo code L N S r fits (counts_of L)) (sym Z.last)
     (goes_guard (follows L.last 6) 3 _ _ _ _ refl (omega arith) (omega arith) λ a.
     goes_guard (within 1 (length L.methods) r) 4 _ _ _ _ refl (omega arith) (omega arith) λ b.

@@ -12,13 +12,15 @@ use borrow.Author.Tests.{leb-true, ltb-true, ltb-false, eqb-true, eqb-false, ne_
 use Rattle.model.specs.Answer.{Answer, pick, is_none, at}
 use Rattle.model.specs.Tables.{Ty, byte_of, Sort, static, instance, virtual, constructor, initialiser, sort_byte, is_sort, Method, part_of, method_at, this_of, arguments, root, initialiser_of, sort_at}
 use Rattle.model.specs.Loading.{Loading, follows, within, return_at, override_fits, root_free, sort_fits, code_fits, method_record}
-use Rattle.std.specs.Prelude.{Result, Ok, ⊤}
+use Rattle.std.specs.Prelude.{Some, Result, Ok, ⊤}
 use Rattle.loaded.specs.declared.Counts.{Counts}
 use Rattle.loaded.specs.declared.Loaded.{Loaded}
-use Rattle.loader.specs.declared.order.Notes.{Notes}
+use Rattle.loader.specs.declared.notes.Notes.{Notes}
 use Rattle.loader.specs.declared.refusal.Refusal.{Refusal}
 use Rattle.loader.specs.declared.method.Body.{Body}
 use Rattle.loaded.specs.Holds.{byte_at}
+use Rattle.loader.specs.declared.kind.Kind.TheVariants.{Method as MethodKind}
+use Rattle.loader.specs.Kinds.{last_byte}
 use Rattle.loader.specs.Goes.{Goes}
 use Rattle.loader.specs.Rules.{OverrideRule, SortRule}
 use Rattle.loader.specs.Allowed.{is_return, code_in, method_allowed}
@@ -216,7 +218,7 @@ method_in N n i m p = record {
 }
 
 abbrev pub method_noted : Notes → ℕ → ℕ → Notes
-method_noted S place n = record { last = 3; own = S.own; places = set S.places (n + 1) place }
+method_noted S place n = record { last = Some MethodKind; own = S.own; places = set S.places (n + 1) place }
 
 abbrev pub filled : Loaded → Body → Counts → Loaded
 filled N b n =
@@ -269,11 +271,11 @@ module _ (code : List ℕ) (L : Loading) (N : Loaded) (S : Notes) (Z : Stands co
       below false e h = let z = ltb-false 0 b.overridden e in omega arith
 
   pub method_goes : (over fits : Bool) → OverrideRule L b.owner b.sort b.overridden over → SortRule L b.owner b.sort b.returns fits
-      → (size : ℕ) → size ≡ length code → Goes (record_of code L place b) (allowed S.last N.counts b size over fits) (λ K. Stands code K (filled N b N.counts) (method_noted S place N.counts.methods))
+      → (size : ℕ) → size ≡ length code → Goes (record_of code L place b) (allowed (last_byte S.last) N.counts b size over fits) (λ K. Stands code K (filled N b N.counts) (method_noted S place N.counts.methods))
   unfolding method_record method_allowed counts_of is_return code_in code_fits OverrideRule SortRule After
   method_goes over fits rule sorts size es =
-      subst (λ (i : ℕ). Goes (record_of code L place b) (allowed S.last N.counts b i over fits) (λ K. Stands code K (filled N b N.counts) (method_noted S place N.counts.methods))) (sym es)
-      (subst (λ (n : Counts). MethodTo code L N S b place over fits n S.last) (sym Z.counted)
+      subst (λ (i : ℕ). Goes (record_of code L place b) (allowed (last_byte S.last) N.counts b i over fits) (λ K. Stands code K (filled N b N.counts) (method_noted S place N.counts.methods))) (sym es)
+      (subst (λ (n : Counts). MethodTo code L N S b place over fits n (last_byte S.last)) (sym Z.counted)
       (subst (MethodTo code L N S b place over fits (counts_of L)) (sym Z.last)
       (goes_guard (follows L.last 3) 3 _ _ After _ refl (omega arith) (omega arith) λ x.
       goes_guard (within 1 (length L.parents) b.owner) 4 _ _ After _ refl (omega arith) (omega arith) λ y.
@@ -290,7 +292,7 @@ module _ (code : List ℕ) (L : Loading) (N : Loaded) (S : Notes) (Z : Stands co
 
   -- with the values and rows as the code has them
   pub method_taken : (over fits : Bool) → OverrideRule L b.owner b.sort b.overridden over → SortRule L b.owner b.sort b.returns fits
-      → (size : ℕ) → size ≡ length code → Ok tt ≡ allowed S.last N.counts b size over fits
+      → (size : ℕ) → size ≡ length code → Ok tt ≡ allowed (last_byte S.last) N.counts b size over fits
       → (this count q : ℕ) → this ≡ this_byte b.sort b.owner → count ≡ one_if this → q ≡ root_in N.methods (N.counts.methods + 1) b.overridden
       → (i m p : List ℕ) → i ≡ marked N.initialisers b.sort b.owner (N.counts.methods + 1) → m ≡ stored 32 (N.counts.methods + 1) N.methods (method_cells b count this q) → p ≡ stored 2 (N.counts.methods + 1) N.parts (part_cells b.offset b.size)
       → Goes (record_of code L place b) (Ok tt) (λ K. Stands code K (method_in N N.counts i m p) (method_noted S place N.counts.methods))

@@ -1,14 +1,14 @@
 -- Record after record: what is still to be read, and how reading ends.
 use mathlib.Core.Path.{◌≡◌, refl, sym, ap, ◌∙◌, subst}
 use Prim.Native.Nat.{ℕ, zero, suc, ◌+◌, ◌-◌, ◌*◌, ◌≤◌, ◌<◌}
-use mathlib.Core.Bool.{Bool, true, false, ◌&&◌}
+use mathlib.Core.Bool.{Bool, true, false}
 use mathlib.Core.Option.{Option, none, some}
 use mathlib.Core.List.{List, []}
 use native.Mathlib.Omega.{arith}
 use lib.ListN.{length, get_or, drop, replicate, length-replicate, length-drop}
 use lib.Seq.{get_or-drop}
-use lib.Dec.{leb, ltb, eqb}
-use borrow.Author.Tests.{le-leb, lt-leb, lt-ltb, le-ltb, ltb-true, ltb-false, eqb-true, eqb-false}
+use lib.Dec.{ltb, eqb}
+use borrow.Author.Tests.{le-leb, lt-leb, lt-ltb, le-ltb}
 use Rattle.model.specs.Answer.{Answer, bad, ok, ◌>>=◌, guard, need, blame, pick, or_else, only_if, is_none, at, row, those, first_row}
 use Rattle.model.specs.Tables.{Method, part_of, no_method, method_at, arguments, this_of, parent_of, root, initialiser_of}
 use Rattle.model.specs.Loading.{Loading, Refusal as Refused, refusal, nothing, body_bytes, Read, one_record, read_record, records}
@@ -16,13 +16,16 @@ use Rattle.loaded.specs.Holds.{byte_at, from_row, zeros, no_counts, nothing as n
 use Rattle.std.specs.Prelude.{Ok, Err, ⊤}
 use Rattle.loaded.specs.declared.Fault.{Fault}
 use Rattle.loaded.specs.declared.Loaded.{Loaded}
-use Rattle.loader.specs.declared.order.Notes.{Notes}
+use Rattle.loader.specs.declared.notes.Notes.{Notes}
 use Rattle.loader.specs.declared.refusal.Refusal.{Refusal}
-use Rattle.loader.specs.Refusals.{number_of, fault_of}
-use Rattle.loader.specs.Answers.{Answers}
-use Rattle.loader.specs.Body.{bytes_at}
+use Rattle.loader.specs.declared.refusal.Refusal.TheVariants.{BadRecord}
+use Rattle.loader.specs.declared.kind.Kind.{Kind}
+use Rattle.loader.specs.declared.kind.Kind.TheVariants.{Class, Field, Method as MethodKind, Parameter, Local, Entry}
+use Rattle.loader.specs.Refusals.{number_of}
+use Rattle.loader.specs.Answers.{Answers, fault_of}
+use Rattle.loader.specs.Kinds.{kind_byte}
 use Rattle.loader.specs.Goes.{Goes}
-use Rattle.loader.specs.Stands.{Column, Grid, field_at, method_column, root_at, method_cell, part_cell, Sound, Stands, counts_of, no_notes}
+use Rattle.loader.specs.Stands.{Column, Grid, field_at, method_column, root_at, method_cell, part_cell, Sound, Stands, Leads, Passes, counts_of, no_notes}
 use Rattle.ancestor.specs.Parents.{Falls}
 use Rattle.loader.proofs.Classes.{no_field}
 use Rattle.loader.proofs.Methods.{column_none}
@@ -169,10 +172,27 @@ module _ (tables code : List ℕ) (at : ℕ) (N : Loaded) (S : Notes) (G : Going
 
 -- ---- One record's kind and size
 
-sized : (n : ℕ) (o : Option ℕ) → n ≡ or_else o 0 → (n ≡ 0 → ⊥) → o ≡ some n
+-- a kind's record has that many body bytes
+known : (k : Kind) → body_bytes (kind_byte k) ≡ some (or_else (body_bytes (kind_byte k)) 0)
+unfolding body_bytes or_else pick only_if
+known Class = refl
+known Field = refl
+known MethodKind = refl
+known Parameter = refl
+known Local = refl
+known Entry = refl
+
+-- a kind whose bytes end too early is none whose bytes are there
+pub cut : (tables : List ℕ) (at : ℕ) (k : Kind) → kind_byte k ≡ get_or tables at 0 → length tables - at ≤ or_else (body_bytes (kind_byte k)) 0
+    → (n : ℕ) → body_bytes (get_or tables at 0) ≡ some n → length tables ≤ at + n
 unfolding or_else
-sized n none e nz = absurd (nz e)
-sized n (some k) e nz = ap some (sym e)
+cut tables at k e h n q =
+    let z : or_else (body_bytes (kind_byte k)) 0 ≡ n = ap (λ (b : ℕ). or_else (body_bytes b) 0) e ∙ ap (λ (o : Option ℕ). or_else o 0) q in
+    omega arith
+
+-- a byte that declares no kind
+pub unknown : (tables : List ℕ) (at : ℕ) → body_bytes (get_or tables at 0) ≡ none → (n : ℕ) → body_bytes (get_or tables at 0) ≡ some n → length tables ≤ at + n
+unknown tables at e n q = let z : ◌≡◌ {A = ℕ} 0 1 = cc in absurd (omega arith)
 
 module _ (tables code : List ℕ) (at : ℕ) (L : Loading) where
   kind_at_lem : get_or (drop at tables) 0 0 ≡ get_or tables at 0
@@ -181,88 +201,62 @@ module _ (tables code : List ℕ) (at : ℕ) (L : Loading) where
       same : at + 0 ≡ at
       same = omega arith
 
-  unsized : (k : ℕ) → ◌≡◌ {A = ℕ} 0 (or_else (body_bytes k) 0) → body_bytes k ≡ none
-  unfolding body_bytes or_else pick only_if
-  unsized k e = go (eqb k 1) (eqb k 2) (eqb k 3) (leb 4 k && leb k 6) e
+  abbrev rest : ℕ → ℕ → ℕ → Answer ℕ Read
+  rest n long k = guard (ltb n long) 2 >>= λ _. one_record code L at k (drop 1 (drop at tables)) >>= λ K. ok (record { loading = K; size = n + 1 })
+
+  -- a record by its body bytes
+  by_size : (o : Option ℕ) → body_bytes (get_or tables at 0) ≡ o → read_record code L at (drop at tables) ≡ (need o 2 >>= λ n. rest n (length tables - at) (get_or tables at 0))
+  unfolding read_record
+  by_size o e =
+      ap (λ (o : Option ℕ). need o 2 >>= λ n. rest n (length (drop at tables)) (get_or (drop at tables) 0 0)) (ap body_bytes kind_at_lem ∙ e)
+      ∙ ap (λ (i : ℕ). need o 2 >>= λ n. rest n i (get_or (drop at tables) 0 0)) (length-drop at tables)
+      ∙ ap (λ (k : ℕ). need o 2 >>= λ n. rest n (length tables - at) k) kind_at_lem
+
+  unread : at < length tables → ((n : ℕ) → body_bytes (get_or tables at 0) ≡ some n → length tables ≤ at + n) → read_record code L at (drop at tables) ≡ bad 2
+  unfolding need guard ◌>>=◌
+  unread l h = go (body_bytes (get_or tables at 0)) refl
     where
-      go : (a b c d : Bool) → ◌≡◌ {A = ℕ} 0 (or_else (pick a (some 1) (pick b (some 3) (pick c (some 11) (only_if d (some 1))))) 0) → ◌≡◌ {A = Option ℕ} (pick a (some 1) (pick b (some 3) (pick c (some 11) (only_if d (some 1))))) none
-      go true b c d e = absurd (omega arith)
-      go false true c d e = absurd (omega arith)
-      go false false true d e = absurd (omega arith)
-      go false false false true e = absurd (omega arith)
-      go false false false false e = refl
+      go : (o : Option ℕ) → body_bytes (get_or tables at 0) ≡ o → read_record code L at (drop at tables) ≡ bad 2
+      go none e = by_size none e
+      go (some n) e =
+          let w = h n e in
+          by_size (some n) e ∙ ap (λ (b : Bool). guard b 2 >>= λ _. one_record code L at (get_or tables at 0) (drop 1 (drop at tables)) >>= λ K. ok (record { loading = K; size = n + 1 })) (le-ltb n (length tables - at) (omega arith))
 
-  -- an unknown kind
-  unknown : (n : ℕ) → n ≡ or_else (body_bytes (get_or tables at 0)) 0 → n ≡ 0 → read_record code L at (drop at tables) ≡ bad 2
-  unfolding read_record need ◌>>=◌
-  unknown n e z =
-      ap (λ (o : Option ℕ). need o 2 >>= λ n. guard (ltb n (length (drop at tables))) 2 >>= λ _. one_record code L at (get_or (drop at tables) 0 0) (drop 1 (drop at tables)) >>= λ K. ok (record { loading = K; size = n + 1 }))
-      (ap body_bytes kind_at_lem ∙ unsized (get_or tables at 0) (sym z ∙ e))
+  read : (k : Kind) → kind_byte k ≡ get_or tables at 0 → at + or_else (body_bytes (kind_byte k)) 0 < length tables →
+      read_record code L at (drop at tables) ≡ (one_record code L at (kind_byte k) (drop 1 (drop at tables)) >>= λ K. ok (record { loading = K; size = or_else (body_bytes (kind_byte k)) 0 + 1 }))
+  unfolding need guard ◌>>=◌
+  read k e h =
+      by_size (some (or_else (body_bytes (kind_byte k)) 0)) (ap body_bytes (sym e) ∙ known k)
+      ∙ ap (λ (b : Bool). guard b 2 >>= λ _. one_record code L at (get_or tables at 0) (drop 1 (drop at tables)) >>= λ K. ok (record { loading = K; size = or_else (body_bytes (kind_byte k)) 0 + 1 })) (lt-ltb (or_else (body_bytes (kind_byte k)) 0) (length tables - at) (omega arith))
+      ∙ ap (λ (i : ℕ). one_record code L at i (drop 1 (drop at tables)) >>= λ K. ok (record { loading = K; size = or_else (body_bytes (kind_byte k)) 0 + 1 })) (sym e)
 
-  whole : (n : ℕ) → n ≡ or_else (body_bytes (get_or tables at 0)) 0 → (n ≡ 0 → ⊥) →
-      read_record code L at (drop at tables) ≡ (guard (ltb n (length tables - at)) 2 >>= λ _. one_record code L at (get_or tables at 0) (drop 1 (drop at tables)) >>= λ K. ok (record { loading = K; size = n + 1 }))
-  unfolding read_record need ◌>>=◌
-  whole n e nz =
-      ap (λ (o : Option ℕ). need o 2 >>= λ n. guard (ltb n (length (drop at tables))) 2 >>= λ _. one_record code L at (get_or (drop at tables) 0 0) (drop 1 (drop at tables)) >>= λ K. ok (record { loading = K; size = n + 1 }))
-      (ap body_bytes kind_at_lem ∙ sized n (body_bytes (get_or tables at 0)) e nz)
-      ∙ ap (λ (i : ℕ). guard (ltb n i) 2 >>= λ _. one_record code L at (get_or (drop at tables) 0 0) (drop 1 (drop at tables)) >>= λ K. ok (record { loading = K; size = n + 1 })) (length-drop at tables)
-      ∙ ap (λ (i : ℕ). guard (ltb n (length tables - at)) 2 >>= λ _. one_record code L at i (drop 1 (drop at tables)) >>= λ K. ok (record { loading = K; size = n + 1 })) kind_at_lem
+  -- ---- How a record passes
 
-  -- a missing body byte
-  cut : (n : ℕ) → n ≡ or_else (body_bytes (get_or tables at 0)) 0 → (n ≡ 0 → ⊥) → length tables - at ≤ n → read_record code L at (drop at tables) ≡ bad 2
-  unfolding guard ◌>>=◌
-  cut n e nz h =
-      whole n e nz
-      ∙ ap (λ (b : Bool). guard b 2 >>= λ _. one_record code L at (get_or tables at 0) (drop 1 (drop at tables)) >>= λ K. ok (record { loading = K; size = n + 1 })) (le-ltb n (length tables - at) h)
+  -- 2: an unknown kind or a missing body byte
+  pub passes_cut : at < length tables → (e : Refusal) → e ≡ BadRecord → ((n : ℕ) → body_bytes (get_or tables at 0) ≡ some n → length tables ≤ at + n) → (N : Loaded) (S : Notes) → Passes code (read_record code L at (drop at tables)) at (Err e) N S
+  unfolding Passes
+  passes_cut l e q h N S = subst (λ (m : Answer ℕ Read). Passes code m at (Err e) N S) (sym (unread l h)) (ap number_of q, omega arith, omega arith)
 
-  read : (n : ℕ) → n ≡ or_else (body_bytes (get_or tables at 0)) 0 → (n ≡ 0 → ⊥) → n < length tables - at →
-      read_record code L at (drop at tables) ≡ (one_record code L at (get_or tables at 0) (drop 1 (drop at tables)) >>= λ K. ok (record { loading = K; size = n + 1 }))
-  unfolding guard ◌>>=◌
-  read n e nz h =
-      whole n e nz
-      ∙ ap (λ (b : Bool). guard b 2 >>= λ _. one_record code L at (get_or tables at 0) (drop 1 (drop at tables)) >>= λ K. ok (record { loading = K; size = n + 1 })) (lt-ltb n (length tables - at) h)
+  module _ (k : Kind) (e : kind_byte k ≡ get_or tables at 0) (h : at + or_else (body_bytes (kind_byte k)) 0 < length tables) (N : Loaded) (S : Notes) where
+    -- 3 to 6
+    pub passes_bad : (d : Refusal) → Leads code (one_record code L at (kind_byte k) (drop 1 (drop at tables))) (Err d) N S → Passes code (read_record code L at (drop at tables)) at (Err d) N S
+    unfolding Passes Goes ◌>>=◌
+    passes_bad d goes = subst (λ (m : Answer ℕ Read). Passes code m at (Err d) N S) (sym (read k e h)) (go (one_record code L at (kind_byte k) (drop 1 (drop at tables))) goes)
+      where
+        go : (m : Answer ℕ Loading) → Leads code m (Err d) N S → Passes code (m >>= λ K. ok (record { loading = K; size = or_else (body_bytes (kind_byte k)) 0 + 1 })) at (Err d) N S
+        go (bad n) w = w
+        go (ok K) w = absurd w
+
+    pub passes_ok : (v : ⊤) → Leads code (one_record code L at (kind_byte k) (drop 1 (drop at tables))) (Ok v) N S
+        → (i : ℕ) → i ≡ at + or_else (body_bytes (kind_byte k)) 0 + 1 → Passes code (read_record code L at (drop at tables)) at (Ok i) N S
+    unfolding Passes Goes ◌>>=◌
+    passes_ok v goes i ei = subst (λ (m : Answer ℕ Read). Passes code m at (Ok i) N S) (sym (read k e h)) (go (one_record code L at (kind_byte k) (drop 1 (drop at tables))) goes)
+      where
+        go : (m : Answer ℕ Loading) → Leads code m (Ok v) N S → Passes code (m >>= λ K. ok (record { loading = K; size = or_else (body_bytes (kind_byte k)) 0 + 1 })) at (Ok i) N S
+        go (bad n) w = absurd w
+        go (ok K) w = (omega arith, w)
 
 -- ---- Each way that reading ends
-
-module _ (tables : List ℕ) (at : ℕ) where
-  -- a record that is there has its bytes
-  pub bytes_there : (bytes_at tables at ≡ 0 → ⊥) → (bytes_at tables at ≡ or_else (body_bytes (get_or tables at 0)) 0) × (bytes_at tables at < length tables - at)
-  unfolding bytes_at pick
-  bytes_there n = go (ltb (or_else (body_bytes (get_or tables at 0)) 0) (length tables - at)) refl n
-    where
-      go : (b : Bool) → ltb (or_else (body_bytes (get_or tables at 0)) 0) (length tables - at) ≡ b → (pick b (or_else (body_bytes (get_or tables at 0)) 0) 0 ≡ 0 → ⊥) → (pick b (or_else (body_bytes (get_or tables at 0)) 0) 0 ≡ or_else (body_bytes (get_or tables at 0)) 0) × (pick b (or_else (body_bytes (get_or tables at 0)) 0) 0 < length tables - at)
-      go true e n = (refl, ltb-true _ (length tables - at) e)
-      go false e n = absurd (n refl)
-
-  -- the code's count of them
-  pub bytes_cut : (n : ℕ) → n ≡ or_else (body_bytes (get_or tables at 0)) 0 → length tables - at ≤ n → 0 ≡ bytes_at tables at
-  unfolding bytes_at pick
-  bytes_cut n e h = sym (ap (λ (b : Bool). pick b (or_else (body_bytes (get_or tables at 0)) 0) 0) (le-ltb _ _ (subst (λ (i : ℕ). length tables - at ≤ i) e h)))
-
-  pub bytes_whole : (n : ℕ) → n ≡ or_else (body_bytes (get_or tables at 0)) 0 → n < length tables - at → n ≡ bytes_at tables at
-  unfolding bytes_at pick
-  bytes_whole n e h = e ∙ sym (ap (λ (b : Bool). pick b (or_else (body_bytes (get_or tables at 0)) 0) 0) (lt-ltb _ _ (subst (λ (i : ℕ). i < length tables - at) e h)))
-
-module _ (tables code : List ℕ) (at : ℕ) (L : Loading) where
-  unread : bytes_at tables at ≡ 0 → read_record code L at (drop at tables) ≡ bad 2
-  unfolding bytes_at pick
-  unread z = go (ltb (or_else (body_bytes (get_or tables at 0)) 0) (length tables - at)) refl (eqb (or_else (body_bytes (get_or tables at 0)) 0) 0) refl z
-    where
-      go : (b : Bool) → ltb (or_else (body_bytes (get_or tables at 0)) 0) (length tables - at) ≡ b → (c : Bool) → eqb (or_else (body_bytes (get_or tables at 0)) 0) 0 ≡ c
-          → pick b (or_else (body_bytes (get_or tables at 0)) 0) 0 ≡ 0 → read_record code L at (drop at tables) ≡ bad 2
-      go b e true f z = unknown tables code at L _ refl (eqb-true _ 0 f)
-      go true e false f z = absurd (eqb-false _ 0 f z)
-      go false e false f z = cut tables code at L _ refl (eqb-false _ 0 f) (ltb-false _ _ e)
-
-goes_refused : {A : Type 0} (m : Answer ℕ A) (e : Refusal) (P : A → Type 0) → Goes m (Err e) P → (m ≡ bad (number_of e)) × (2 ≤ number_of e)
-unfolding Goes
-goes_refused (bad k) e P h = (ap bad (sym h.0), subst (λ (i : ℕ). 2 ≤ i) (sym h.0) h.1)
-goes_refused (ok a) e P h = absurd h
-
-goes_taken : {A : Type 0} (m : Answer ℕ A) (v : ⊤) (P : A → Type 0) → Goes m (Ok v) P → (a : A) × (m ≡ ok a) × P a
-unfolding Goes
-goes_taken (bad k) v P h = absurd h
-goes_taken (ok a) v P h = (a, refl, h)
 
 -- a refusal, by its fault
 pub refuses : {V M : Type 0} (m : Answer Refused M) (p n : ℕ) → m ≡ bad (refused_at p n) → 1 ≤ n → (a : Fault) → a ≡ fault_of (refused_at p n) → (loaded : V → M → Type 0) → Answers m (Err a) ⊤ loaded
@@ -270,36 +264,23 @@ unfolding Answers
 refuses m p n e h a ea loaded = subst (λ (x : Answer Refused _). Answers x (Err a) ⊤ loaded) (sym e) (ea, h, tt)
 
 module _ (tables code : List ℕ) (at : ℕ) (N : Loaded) (S : Notes) (G : Going tables code at N S) where
-  -- 2: an unknown kind or a missing body byte
-  pub reads_two : at < length tables → (n : ℕ) → n ≡ bytes_at tables at → n ≡ 0 → (a : Fault) → a ≡ fault_of (refused_at at 2) → {V : Type 0} (loaded : V → Loading → Type 0) → Answers (records (length tables) tables code 0 nothing) (Err a) ⊤ loaded
-  reads_two l n e z a ea loaded = refuses _ at 2 (stop tables code at N S G 2 l (unread tables code at G.loading (sym e ∙ z))) (omega arith) a ea loaded
+  -- 2 to 6: at the record
+  pub reads_record : at < length tables → (d : Refusal) (M : Loaded) (R : Notes) → Passes code (read_record code G.loading at (drop at tables)) at (Err d) M R
+      → (a : Fault) → a ≡ fault_of (refused_at at (number_of d)) → {V : Type 0} (loaded : V → Loading → Type 0) → Answers (records (length tables) tables code 0 nothing) (Err a) ⊤ loaded
+  unfolding Passes
+  reads_record l d M R passes a ea loaded = go (read_record code G.loading at (drop at tables)) refl passes
+    where
+      go : (m : Answer ℕ Read) → read_record code G.loading at (drop at tables) ≡ m → Passes code m at (Err d) M R → Answers (records (length tables) tables code 0 nothing) (Err a) ⊤ loaded
+      go (bad n) e w = refuses _ at (number_of d) (stop tables code at N S G (number_of d) l (e ∙ ap bad (sym w.0))) (let q = w.0 in let lo = w.1 in omega arith) a ea loaded
+      go (ok K) e w = absurd w
 
-  module _ (l : at < length tables) (n : ℕ) (e : n ≡ bytes_at tables at) (nz : n ≡ 0 → ⊥) (P : Loading → Type 0) where
-    there : (n ≡ or_else (body_bytes (get_or tables at 0)) 0) × (n < length tables - at)
-    there =
-        let w = bytes_there tables at (λ z. nz (e ∙ z)) in
-        (e ∙ w.0, subst (λ (i : ℕ). i < length tables - at) (sym e) w.1)
-
-    -- 3 to 6: at the record
-    pub reads_record : (d : Refusal) → Goes (one_record code G.loading at (get_or tables at 0) (drop 1 (drop at tables))) (Err d) P
-        → (a : Fault) → a ≡ fault_of (refused_at at (number_of d)) → {V : Type 0} (loaded : V → Loading → Type 0) → Answers (records (length tables) tables code 0 nothing) (Err a) ⊤ loaded
-    unfolding ◌>>=◌
-    reads_record d goes a ea loaded =
-        let w = goes_refused _ d P goes in
-        refuses _ at (number_of d)
-        (stop tables code at N S G (number_of d) l (read tables code at G.loading n there.0 nz there.1 ∙ ap (λ (x : Answer ℕ Loading). x >>= λ K. ok (record { loading = K; size = n + 1 })) w.0)) (let q = w.1 in omega arith) a ea loaded
-
-    pub goes_on : (v : ⊤) → Goes (one_record code G.loading at (get_or tables at 0) (drop 1 (drop at tables))) (Ok v) P
-        → (M : Loaded) (R : Notes) → ((K : Loading) → P K → Stands code K M R) → Going tables code (at + n + 1) M R
-    unfolding ◌>>=◌
-    goes_on v goes M R f =
-        let w = goes_taken _ v P goes in
-        subst (λ (i : ℕ). Going tables code i M R) step
-        (go_on tables code at N S G w.0 (n + 1) M R l (omega arith)
-        (read tables code at G.loading n there.0 nz there.1 ∙ ap (λ (x : Answer ℕ Loading). x >>= λ K. ok (record { loading = K; size = n + 1 })) w.1) (f w.0 w.2))
-      where
-        step : at + (n + 1) ≡ at + n + 1
-        step = omega arith
+  pub goes_on : at < length tables → (i : ℕ) → at < i → (M : Loaded) (R : Notes) → Passes code (read_record code G.loading at (drop at tables)) at (Ok i) M R → Going tables code i M R
+  unfolding Passes
+  goes_on l i h M R passes = go (read_record code G.loading at (drop at tables)) refl passes
+    where
+      go : (m : Answer ℕ Read) → read_record code G.loading at (drop at tables) ≡ m → Passes code m at (Ok i) M R → Going tables code i M R
+      go (bad n) e w = absurd w
+      go (ok K) e w = subst (λ (i : ℕ). Going tables code i M R) (sym w.0) (go_on tables code at N S G K.loading K.size M R l (let q = w.0 in omega arith) e w.1)
 
   -- every record is taken
   pub reads_all : length tables ≤ at → {V : Type 0} (v : V) → Answers (records (length tables) tables code 0 nothing) (Ok v) ⊤ (λ u L. Stands code L N S)

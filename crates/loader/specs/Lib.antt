@@ -1,5 +1,6 @@
 pub mod Answers
 pub mod Refusals
+pub mod Kinds
 pub mod Allowed
 pub mod Stands
 pub mod Goes

@@ -1,17 +1,19 @@
 -- What the arrays hold while loading goes on: each cell the model's value, 0 where there is none.
-use Rattle.std.specs.Prelude.{ℕ, ◌+◌, ◌-◌, ◌*◌, ◌≤◌, ◌<◌, ◌≡◌, List, [], ◌∷◌, length, get_or, set, ltb, eqb, Result, ⊤}
+use Rattle.std.specs.Prelude.{ℕ, ◌+◌, ◌-◌, ◌*◌, ◌≤◌, ◌<◌, ◌≡◌, List, [], ◌∷◌, length, get_or, set, ltb, eqb, None, Result, Ok, Err, ⊤}
 use Rattle.std.proofs.Math.Option.{some}
-use Rattle.model.specs.Answer.{Answer, pick, or_else, is_none, at, row, those, last_of}
+use Rattle.model.specs.Answer.{Answer, bad, ok, pick, or_else, is_none, at, row, those, last_of}
 use Rattle.model.specs.Tables.{byte_of, virtual, sort_byte, Field, Method, part_of, method_at, arguments}
 use Rattle.model.specs.Tables.{is_own, is_static_field, slot, root, initialiser_of}
-use Rattle.model.specs.Loading.{Loading, no_field}
+use Rattle.model.specs.Loading.{Loading, Read, no_field}
 use Rattle.model.specs.Operators.{flag}
 use Rattle.loaded.specs.Holds.{byte_at, from_row, zeros}
 use Rattle.ancestor.specs.Parents.{Falls}
 use Rattle.loaded.specs.declared.Counts.{Counts}
 use Rattle.loaded.specs.declared.Loaded.{Loaded}
-use Rattle.loader.specs.declared.order.Notes.{Notes}
+use Rattle.loader.specs.declared.notes.Notes.{Notes}
 use Rattle.loader.specs.declared.refusal.Refusal.{Refusal}
+use Rattle.loader.specs.Refusals.{number_of}
+use Rattle.loader.specs.Kinds.{last_byte}
 use Rattle.loader.specs.Goes.{Goes}
 use Rattle.loader.specs.declared.method.Body.{Body}
 
@@ -152,7 +154,7 @@ counts_of L = record {
 
 pub record Stands (code : List ℕ) (L : Loading) (N : Loaded) (S : Notes) : Type 0 where
   pub counted : N.counts ≡ counts_of L
-  pub last : S.last ≡ L.last
+  pub last : last_byte S.last ≡ L.last
   pub classes : ClassRows L.parents N.parents
   pub fields : FieldRows L.parents L.fields S.own N.fields
   pub methods : MethodRows code L.methods N.initialisers N.methods N.parts
@@ -164,11 +166,18 @@ pub record Stands (code : List ℕ) (L : Loading) (N : Loaded) (S : Notes) : Typ
 
 -- before the first record
 unfoldable pub no_notes : Notes
-no_notes = record { last = 0; own = zeros 33; places = zeros 129 }
+no_notes = record { last = None; own = zeros 33; places = zeros 129 }
 
 -- a record's end: refused with the model's number, or taken, with a module and notes that hold what the model has then
 abbrev pub Leads : List ℕ → Answer ℕ Loading → Result ⊤ Refusal → Loaded → Notes → Type 0
 Leads code m r N S = Goes m r (λ K. Stands code K N S)
+
+-- the same of a record at an offset, where what comes back is the offset behind it
+unfoldable pub Passes : List ℕ → Answer ℕ Read → ℕ → Result ℕ Refusal → Loaded → Notes → Type 0
+Passes code (bad n) at (Err e) N S = (number_of e ≡ n) × (2 ≤ n) × (n ≤ 6)
+Passes code (bad n) at (Ok i) N S = ⊥
+Passes code (ok R) at (Err e) N S = ⊥
+Passes code (ok R) at (Ok i) N S = (i ≡ at + R.size) × Stands code R.loading N S
 
 -- how far the counts go, which keeps every index within its array
 pub record Fine (g : Counts) : Type 0 where

@@ -2,10 +2,12 @@
 ghost use Rattle.std.specs.Prelude.{◌≡◌, List, ℕ};
 ghost use Rattle.model.specs.Loading.{Loading as LoadingOf, class_record, parent_fits};
 ghost use Rattle.loader.specs.Stands.{Stands, Leads};
+ghost use Rattle.loader.specs.Kinds.{last_byte};
 ghost use Rattle.loader.specs.Allowed.{class_allowed};
 
+use crate::kind::Kind;
+use crate::notes::Notes;
 use crate::numbers;
-use crate::order::{Notes, follows};
 use crate::ranges::is_row;
 use crate::refusal::Refusal;
 use loaded::Loaded;
@@ -21,10 +23,10 @@ fn parent_fits(classes: usize, p: u8) -> bool
 }
 
 // Whether a class record is taken: its place, its parent, room for it.
-fn class_allowed(last: u8, classes: usize, p: u8) -> Result<(), Refusal>
-    ensures { result ≡ class_allowed last classes p }
+fn class_allowed(last: Option<Kind>, classes: usize, p: u8) -> Result<(), Refusal>
+    ensures { result ≡ class_allowed (last_byte last) classes p }
 {
-    if !follows(last, numbers::CLASS) {
+    if !Kind::Class.follows(last) {
         return Err(Refusal::Order);
     }
     if !parent_fits(classes, p) {
@@ -44,6 +46,6 @@ pub fn class_record(loaded: &mut Loaded, notes: &mut Notes, p: u8) -> Result<(),
     let row = loaded.counts.classes + 1;
     loaded.parents[row] = p;
     loaded.counts.classes = row;
-    notes.last = numbers::CLASS;
+    notes.last = Some(Kind::Class);
     Ok(())
 }

@@ -6,10 +6,12 @@ ghost use Rattle.model.specs.Loading.{Loading as LoadingOf, is_integer, all, ent
 ghost use Rattle.loaded.specs.Holds.{byte_at};
 ghost use Rattle.loader.specs.Rules.{EntryRule};
 ghost use Rattle.loader.specs.Stands.{MethodCells, Sound, Stands, Leads, Fine};
+ghost use Rattle.loader.specs.Kinds.{last_byte};
 ghost use Rattle.loader.specs.Allowed.{entry_allowed};
 
+use crate::kind::Kind;
+use crate::notes::Notes;
 use crate::numbers;
-use crate::order::{Notes, follows};
 use crate::ranges::{is_row, wide};
 use crate::refusal::Refusal;
 use loaded::Loaded;
@@ -62,10 +64,10 @@ fn entry_fits(methods: &[u8; 4128], n: usize, r: u8) -> bool
 }
 
 // Whether the entry record is taken; `fits` is the rule on the entry.
-fn entry_allowed(last: u8, methods: usize, r: u8, fits: bool) -> Result<(), Refusal>
-    ensures { result ≡ entry_allowed last methods r fits }
+fn entry_allowed(last: Option<Kind>, methods: usize, r: u8, fits: bool) -> Result<(), Refusal>
+    ensures { result ≡ entry_allowed (last_byte last) methods r fits }
 {
-    if !follows(last, numbers::ENTRY) {
+    if !Kind::Entry.follows(last) {
         return Err(Refusal::Order);
     }
     if !is_row(methods, r) {
@@ -86,6 +88,6 @@ pub fn entry_record(loaded: &mut Loaded, notes: &mut Notes, r: u8) -> Result<(),
     let fits = entry_fits(&loaded.methods, n, r);
     entry_allowed(notes.last, n, r, fits)?;
     loaded.counts.entry = r as usize;
-    notes.last = numbers::ENTRY;
+    notes.last = Some(Kind::Entry);
     Ok(())
 }

@@ -4,10 +4,12 @@ ghost use Rattle.model.specs.Answer.{pick, those};
 ghost use Rattle.model.specs.Tables.{Field, is_static_field, layout};
 ghost use Rattle.model.specs.Loading.{Loading as LoadingOf, field_record};
 ghost use Rattle.loader.specs.Stands.{ClassRows, FieldRows, stored, field_cells, Stands, Leads, Fine, Small};
+ghost use Rattle.loader.specs.Kinds.{last_byte};
 ghost use Rattle.loader.specs.Allowed.{slot_room, field_allowed};
 
+use crate::kind::Kind;
+use crate::notes::Notes;
 use crate::numbers;
-use crate::order::{Notes, follows};
 use crate::ranges::{is_row, type_fits, wide};
 use crate::refusal::Refusal;
 use loaded::columns::{FIELD, FIELD_OWNER, SLOT, STATIC, TYPE};
@@ -57,7 +59,7 @@ fn field_room(fields: usize, flag: u8, slot: usize) -> bool
 
 // Whether a field record is taken; `before` is the owner of the field before it.
 fn field_allowed(
-    last: u8,
+    last: Option<Kind>,
     counts: Counts,
     before: u8,
     o: u8,
@@ -65,9 +67,9 @@ fn field_allowed(
     t: u8,
     slot: usize,
 ) -> Result<(), Refusal>
-    ensures { result ≡ field_allowed last before counts.classes counts.fields o flag t slot }
+    ensures { result ≡ field_allowed (last_byte last) before counts.classes counts.fields o flag t slot }
 {
-    if !follows(last, numbers::FIELD) {
+    if !Kind::Field.follows(last) {
         return Err(Refusal::Order);
     }
     if o < before {
@@ -122,6 +124,6 @@ pub fn field_record(
     notes.own[class] = notes.own[class] + (1 - flag);
     loaded.counts.fields = row;
     loaded.counts.statics = loaded.counts.statics + flag as usize;
-    notes.last = numbers::FIELD;
+    notes.last = Some(Kind::Field);
     Ok(())
 }

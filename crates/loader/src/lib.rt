@@ -1,9 +1,10 @@
 // Loading: house tables to a module in flat arrays, indexed by row, that the check and the machine use without reading the tables again.
 #![tactic(auto)]
 
-mod numbers; // limits, kinds, sorts, types
+mod numbers; // limits, sorts, types
 mod refusal; // why a module is refused, and where
-mod order; // what reading keeps, and which record may follow which
+mod kind; // kinds of records, and which may follow which
+mod notes; // what reading keeps beside the module
 mod ranges; // rows and types
 mod class; // a class record
 mod field; // a field record
@@ -22,7 +23,7 @@ ghost use Rattle.loaded.specs.Holds.{Holds, nothing as nothing_of};
 ghost use Rattle.loader.specs.Answers.{Answers};
 
 use crate::after_last::first_differing;
-use crate::order::Notes;
+use crate::notes::Notes;
 use crate::records::read_records;
 use crate::refusal::Refusal;
 use loaded::{Fault, Loaded};
@@ -44,7 +45,7 @@ fn read_into(tables: &[u8], code: &[u8], loaded: &mut Loaded) -> Result<(), Faul
     }
     let mut notes = Notes::default();
     read_records(tables, code, loaded, &mut notes)?;
-    if notes.last != numbers::ENTRY {
+    if !notes.ended() {
         return Err(Refusal::Order.at(tables.len()));
     }
     let row = first_differing(&loaded.methods, loaded.counts.methods);

@@ -2,20 +2,22 @@
 ghost use Rattle.std.specs.Prelude.{◌≡◌, List, ℕ};
 ghost use Rattle.model.specs.Loading.{Loading as LoadingOf, local_record};
 ghost use Rattle.loader.specs.Stands.{Stands, Leads, Fine};
+ghost use Rattle.loader.specs.Kinds.{last_byte};
 ghost use Rattle.loader.specs.Allowed.{local_allowed};
 
+use crate::kind::Kind;
+use crate::notes::Notes;
 use crate::numbers;
-use crate::order::{Notes, follows};
 use crate::ranges::{type_fits, wide};
 use crate::refusal::Refusal;
 use loaded::Loaded;
 use loaded::columns::{LOCAL_COUNT, LOCALS, METHOD};
 
 // Whether a local record is taken; `count` is how many locals there are.
-fn local_allowed(last: u8, classes: usize, t: u8, count: u8) -> Result<(), Refusal>
-    ensures { result ≡ local_allowed last classes t count }
+fn local_allowed(last: Option<Kind>, classes: usize, t: u8, count: u8) -> Result<(), Refusal>
+    ensures { result ≡ local_allowed (last_byte last) classes t count }
 {
-    if !follows(last, numbers::LOCAL) {
+    if !Kind::Local.follows(last) {
         return Err(Refusal::Order);
     }
     if !type_fits(classes, t) {
@@ -38,6 +40,6 @@ pub fn local_record(loaded: &mut Loaded, notes: &mut Notes, t: u8) -> Result<(),
     let column = LOCALS + wide(count);
     loaded.methods[base + LOCAL_COUNT] = count + 1;
     loaded.methods[base + column] = t;
-    notes.last = numbers::LOCAL;
+    notes.last = Some(Kind::Local);
     Ok(())
 }

@@ -5,10 +5,12 @@ ghost use Rattle.loader.specs.Rules.{SortRule};
 ghost use Rattle.loader.specs.Body.{body_of};
 ghost use Rattle.loader.specs.Stands.{InitialiserRows, stored, method_cells, part_cells, marked, this_byte, one_if};
 ghost use Rattle.loader.specs.Stands.{Stands, Leads, Fine};
+ghost use Rattle.loader.specs.Kinds.{last_byte};
 ghost use Rattle.loader.specs.Allowed.{is_return, code_in, method_allowed};
 
+use crate::kind::Kind;
+use crate::notes::Notes;
 use crate::numbers;
-use crate::order::{Notes, follows};
 use crate::overriding::{override_fits, root_of};
 use crate::ranges::{is_row, type_fits, wide};
 use crate::refusal::Refusal;
@@ -101,17 +103,17 @@ fn sort_fits(b: Body, initialisers: &[u8; 33]) -> bool
 
 // Whether a method record is taken; `over` and `fits` are the rules between records.
 fn method_allowed(
-    last: u8,
+    last: Option<Kind>,
     counts: Counts,
     b: Body,
     code: usize,
     over: bool,
     fits: bool,
 ) -> Result<(), Refusal>
-    ensures { result ≡ method_allowed last counts.classes counts.methods b.owner b.sort b.returns b.stack
+    ensures { result ≡ method_allowed (last_byte last) counts.classes counts.methods b.owner b.sort b.returns b.stack
         (code_in code b.offset b.size) over fits }
 {
-    if !follows(last, numbers::METHOD) {
+    if !Kind::Method.follows(last) {
         return Err(Refusal::Order);
     }
     if !is_row(counts.classes, b.owner) {
@@ -225,6 +227,6 @@ pub fn method_record(
     notes.places[row] = place;
     mark_initialiser(&mut loaded.initialisers, row, b.sort, b.owner);
     loaded.counts.methods = row;
-    notes.last = numbers::METHOD;
+    notes.last = Some(Kind::Method);
     Ok(())
 }

@@ -1,4 +1,4 @@
-// Numbers of document 01: limits, kinds of records, sorts of methods, types.
+// Numbers of document 01: limits, sorts of methods, types.
 
 pub const MOST_TABLES: usize = 8192;
 
@@ -21,19 +21,6 @@ pub const MOST_LOCALS: u8 = 16;
 pub const MOST_STACK: u8 = 32;
 
 pub const MOST_LENGTH: usize = 1024;
-
-// Kinds of records. Those from 4 to 6 have one body byte.
-pub const CLASS: u8 = 1;
-
-pub const FIELD: u8 = 2;
-
-pub const METHOD: u8 = 3;
-
-pub const PARAMETER: u8 = 4;
-
-pub const LOCAL: u8 = 5;
-
-pub const ENTRY: u8 = 6;
 
 // Sorts of methods.
 pub const STATIC: u8 = 0;

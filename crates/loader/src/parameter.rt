@@ -2,20 +2,28 @@
 ghost use Rattle.std.specs.Prelude.{◌≡◌, List, ℕ};
 ghost use Rattle.model.specs.Loading.{Loading as LoadingOf, param_record};
 ghost use Rattle.loader.specs.Stands.{Stands, Leads, Fine};
+ghost use Rattle.loader.specs.Kinds.{last_byte};
 ghost use Rattle.loader.specs.Allowed.{param_allowed};
 
+use crate::kind::Kind;
+use crate::notes::Notes;
 use crate::numbers;
-use crate::order::{Notes, follows};
 use crate::ranges::{type_fits, wide};
 use crate::refusal::Refusal;
 use loaded::Loaded;
 use loaded::columns::{ARGUMENT_COUNT, METHOD, SORT};
 
 // Whether a parameter record is taken; `count` is how many arguments there are with `this`.
-fn param_allowed(last: u8, classes: usize, t: u8, count: u8, sort: u8) -> Result<(), Refusal>
-    ensures { result ≡ param_allowed last classes t count sort }
+fn param_allowed(
+    last: Option<Kind>,
+    classes: usize,
+    t: u8,
+    count: u8,
+    sort: u8,
+) -> Result<(), Refusal>
+    ensures { result ≡ param_allowed (last_byte last) classes t count sort }
 {
-    if !follows(last, numbers::PARAMETER) {
+    if !Kind::Parameter.follows(last) {
         return Err(Refusal::Order);
     }
     if !type_fits(classes, t) {
@@ -42,6 +50,6 @@ pub fn param_record(loaded: &mut Loaded, notes: &mut Notes, t: u8) -> Result<(),
     let column = wide(count);
     loaded.methods[base + ARGUMENT_COUNT] = count + 1;
     loaded.methods[base + column] = t;
-    notes.last = numbers::PARAMETER;
+    notes.last = Some(Kind::Parameter);
     Ok(())
 }

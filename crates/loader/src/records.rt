@@ -1,72 +1,81 @@
 // Record by record: each kind to its own rules.
-ghost use Rattle.std.specs.Prelude.{◌≡◌, List, ℕ, ◌+◌, ◌≤◌, ◌<◌, length, get_or, drop, ⊤};
+ghost use Rattle.std.specs.Prelude.{◌≡◌, List, ℕ, ◌+◌, ◌<◌, length, get_or, drop, IfOk, ⊤};
 ghost use Rattle.model.specs.Answer.{or_else};
-ghost use Rattle.model.specs.Loading.{Loading as LoadingOf, nothing as nothing_of, body_bytes, one_record, records as records_of};
+ghost use Rattle.model.specs.Loading.{Loading as LoadingOf, nothing as nothing_of, body_bytes, one_record, read_record, records as records_of};
 ghost use Rattle.loaded.specs.Holds.{nothing as nothing_loaded};
 ghost use Rattle.loader.specs.Answers.{Answers};
-ghost use Rattle.loader.specs.Body.{bytes_at};
-ghost use Rattle.loader.specs.Stands.{Stands, no_notes, Leads, Fine, Small};
+ghost use Rattle.loader.specs.Kinds.{kind_byte};
+ghost use Rattle.loader.specs.Body.{Whole};
+ghost use Rattle.loader.specs.Stands.{Stands, no_notes, Leads, Passes, Fine, Small};
 
 use crate::class::class_record;
 use crate::entry::entry_record;
 use crate::field::field_record;
+use crate::kind::Kind;
 use crate::local::local_record;
 use crate::method::{method_record, read_body};
-use crate::numbers;
-use crate::order::{Notes, body_bytes};
+use crate::notes::Notes;
 use crate::parameter::param_record;
 use crate::refusal::Refusal;
 use loaded::{Fault, Loaded};
 
-// The record at an offset, by its kind; its bytes are there.
+// The record of a kind at an offset; its bytes are there.
 fn one_record(
     tables: &[u8],
     at: usize,
+    kind: Kind,
     code: usize,
     loaded: &mut Loaded,
     notes: &mut Notes,
 ) -> Result<(), Refusal>
     requires fine { Fine loaded.old.counts }
     requires small { Small notes.old.own }
-    requires or_else_positive { 1 ≤ or_else (body_bytes (get_or tables.now at 0)) 0 }
-    requires at_inside { at + or_else (body_bytes (get_or tables.now at 0)) 0 < length tables.now }
+    requires at_inside { at + or_else (body_bytes (kind_byte kind)) 0 < length tables.now }
     ensures { (buffer : List ℕ) (L : LoadingOf) → code ≡ length buffer → Stands buffer L loaded.old notes.old
-        → Leads buffer (one_record buffer L at (get_or tables.now at 0) (drop 1 (drop at tables.now))) result
+        → Leads buffer (one_record buffer L at (kind_byte kind) (drop 1 (drop at tables.now))) result
         loaded.new notes.new }
 {
-    let kind = tables[at];
     let first = tables[at + 1];
-    if numbers::METHOD < kind {
-        if kind == numbers::PARAMETER {
-            return param_record(loaded, notes, first);
-        }
-        if kind == numbers::LOCAL {
-            return local_record(loaded, notes, first);
-        }
-        return entry_record(loaded, notes, first);
+    match kind {
+        Kind::Class => class_record(loaded, notes, first),
+        Kind::Field => field_record(loaded, notes, first, tables[at + 2], tables[at + 3]),
+        Kind::Method => method_record(loaded, notes, read_body(tables, at), at, code),
+        Kind::Parameter => param_record(loaded, notes, first),
+        Kind::Local => local_record(loaded, notes, first),
+        Kind::Entry => entry_record(loaded, notes, first),
     }
-    if kind == numbers::CLASS {
-        return class_record(loaded, notes, first);
-    }
-    if kind == numbers::FIELD {
-        let flag = tables[at + 2];
-        let t = tables[at + 3];
-        return field_record(loaded, notes, first, flag, t);
-    }
-    let b = read_body(tables, at);
-    method_record(loaded, notes, b, at, code)
 }
 
-// How many body bytes the record at an offset has, 0 where its kind is unknown or one of them is missing.
-fn whole(tables: &[u8], at: usize) -> usize
+// The kind of the record at an offset, of which every byte is there.
+fn whole(tables: &[u8], at: usize) -> Result<Kind, Refusal>
     requires { at < length tables.now }
-    ensures { result ≡ bytes_at tables.now at }
+    ensures { Whole tables.now at result }
 {
-    let n = body_bytes(tables[at]);
-    if tables.len() - at <= n {
-        return 0;
+    let kind = Kind::try_from(tables[at])?;
+    if tables.len() - at <= kind.size() {
+        return Err(Refusal::BadRecord);
     }
-    n
+    Ok(kind)
+}
+
+// The record at an offset, and the offset behind it.
+fn read_record(
+    tables: &[u8],
+    at: usize,
+    code: usize,
+    loaded: &mut Loaded,
+    notes: &mut Notes,
+) -> Result<usize, Refusal>
+    requires fine { Fine loaded.old.counts }
+    requires small { Small notes.old.own }
+    requires at_inside { at < length tables.now }
+    ensures ahead { IfOk result (λ next. at < next) }
+    ensures as_model { (buffer : List ℕ) (L : LoadingOf) → code ≡ length buffer → Stands buffer L loaded.old notes.old
+        → Passes buffer (read_record buffer L at (drop at tables.now)) at result loaded.new notes.new }
+{
+    let kind = whole(tables, at)?;
+    one_record(tables, at, kind, code, loaded, notes)?;
+    Ok(at + kind.size() + 1)
 }
 
 // The records one after the other, up to the first that is refused.
@@ -83,14 +92,10 @@ pub fn read_records(
 {
     let mut at = 0;
     while at < tables.len() {
-        let n = whole(tables, at);
-        if n == 0 {
-            return Err(Refusal::BadRecord.at(at));
+        match read_record(tables, at, code.len(), loaded, notes) {
+            Ok(next) => at = next,
+            Err(refusal) => return Err(refusal.at(at)),
         }
-        if let Err(refusal) = one_record(tables, at, code.len(), loaded, notes) {
-            return Err(refusal.at(at));
-        }
-        at = at + n + 1;
     }
     Ok(())
 }
