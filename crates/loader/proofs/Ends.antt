@@ -19,7 +19,6 @@ use Rattle.loader.specs.declared.notes.Notes.{Notes}
 use Rattle.loader.specs.Kinds.{last_byte}
 use Rattle.loader.specs.Answers.{Answers, fault_of}
 use Rattle.loader.specs.Stands.{field_column, field_at, method_column, root_at, method_cell, part_cell, MethodCells, Sound, Stands, counts_of, Earlier}
-use Rattle.loader.proofs.Rows.{first_least}
 use Rattle.loader.proofs.Methods.{argument_column, local_column}
 use Rattle.loader.proofs.Climb.{fine, low_overrides}
 use Rattle.loader.proofs.Reading.{refused_at, refuses}
@@ -60,19 +59,6 @@ place_at l (suc r) h = cell l r ∙ ap (λ (i : ℕ). get_or l i 0) same
   where
     same : r ≡ suc r - 1
     same = omega arith
-
-sized : (n : ℕ) (o : Option ℕ) → n ≡ or_else o 0 → (n ≡ 0 → ⊥) → o ≡ some n
-unfolding or_else
-sized n none e nz = absurd (nz e)
-sized n (some k) e nz = ap some (sym e)
-
-no_first : (ms : List Method) → ◌≡◌ {A = ℕ} 0 (or_else (first_row (differs ms) 1 ms) 0) → first_row (differs ms) 1 ms ≡ none
-unfolding or_else
-no_first ms e = go (first_row (differs ms) 1 ms) refl e
-  where
-    go : (o : Option ℕ) → first_row (differs ms) 1 ms ≡ o → ◌≡◌ {A = ℕ} 0 (or_else o 0) → o ≡ none
-    go none q e = refl
-    go (some k) q e = absurd (let l = (first_least (differs ms) 1 ms k q).0 in omega arith)
 
 -- what stands at the end is what a loaded module holds
 holds : (code : List ℕ) (L : Loading) (N : Loaded) (S : Notes) → Stands code L N S → Holds (record { parents = L.parents; fields = L.fields; methods = L.methods; entry = L.entry }) code N
@@ -185,33 +171,33 @@ module _ (tables code : List ℕ) where
           ∙ ap (λ (b : Bool). guard b (refused_at (length tables) 3) >>= λ _. agreed w.0 (first_row (differs w.0.methods) 1 w.0.methods) >>= λ _. ok (record { parents = w.0.parents; fields = w.0.fields; methods = w.0.methods; entry = w.0.entry }))
           (ap (λ (i : ℕ). eqb i 6) (sym w.2.last) ∙ n)) (omega arith) a ea loaded
 
-      module _ (six : eqb (last_byte S.last) 6 ≡ true) (k : ℕ)
-          (first : (buffer : List ℕ) (ms : List Method) → N.counts.methods ≡ length ms → Sound buffer ms → MethodCells ms N.methods → k ≡ or_else (first_row (differs ms) 1 ms) 0) where
-        found : k ≡ or_else (first_row (differs taken.0.methods) 1 taken.0.methods) 0
-        unfolding counts_of
-        found = let w = taken in first code w.0.methods (ap (λ (n : Counts). n.methods) w.2.counted) w.2.methods.sound w.2.methods.cell
-
-        closed : (o : Option ℕ) → first_row (differs taken.0.methods) 1 taken.0.methods ≡ o →
-            load tables code ≡ (agreed taken.0 o >>= λ _. ok (record { parents = taken.0.parents; fields = taken.0.fields; methods = taken.0.methods; entry = taken.0.entry }))
-        unfolding ◌>>=◌ after guard
-        closed o f =
+      module _ (six : eqb (last_byte S.last) 6 ≡ true) (o : Option ℕ)
+          (first : (buffer : List ℕ) (ms : List Method) → N.counts.methods ≡ length ms → Sound buffer ms → MethodCells ms N.methods → first_row (differs ms) 1 ms ≡ o) where
+        closed : load tables code ≡ (agreed taken.0 o >>= λ _. ok (record { parents = taken.0.parents; fields = taken.0.fields; methods = taken.0.methods; entry = taken.0.entry }))
+        unfolding ◌>>=◌ after guard counts_of
+        closed =
             let w = taken in
             opened
             ∙ ap (λ (x : Answer Refusal Loading). x >>= after) w.1
             ∙ ap (λ (b : Bool). guard b (refused_at (length tables) 3) >>= λ _. agreed w.0 (first_row (differs w.0.methods) 1 w.0.methods) >>= λ _. ok (record { parents = w.0.parents; fields = w.0.fields; methods = w.0.methods; entry = w.0.entry }))
             (ap (λ (i : ℕ). eqb i 6) (sym w.2.last) ∙ six)
-            ∙ ap (λ (o : Option ℕ). agreed w.0 o >>= λ _. ok (record { parents = w.0.parents; fields = w.0.fields; methods = w.0.methods; entry = w.0.entry })) f
+            ∙ ap (λ (o : Option ℕ). agreed w.0 o >>= λ _. ok (record { parents = w.0.parents; fields = w.0.fields; methods = w.0.methods; entry = w.0.entry }))
+            (first code w.0.methods (ap (λ (n : Counts). n.methods) w.2.counted) w.2.methods.sound w.2.methods.cell)
 
-        -- 7: at the lowest method that differs from what it overrides
-        pub ends_differing : (k ≡ 0 → ⊥) → (a : Fault) → a ≡ fault_of (refused_at (get_or S.places k 0) 7) → {V : Type 0} (loaded : V → Module → Type 0) → Answers (load tables code) (Err a) ⊤ loaded
-        unfolding ◌>>=◌ agreed refusal
-        ends_differing nz a ea loaded =
-            let w = taken in
-            refuses (load tables code) (get_or S.places k 0) 7 (closed (some k) (sized k _ found nz) ∙ ap (λ (i : ℕ). bad (refused_at i 7)) (sym (w.2.place.each k ∙ place_at w.0.places k (omega arith)))) (omega arith) a ea loaded
+      -- 7: at the lowest method that differs from what it overrides
+      pub ends_differing : eqb (last_byte S.last) 6 ≡ true → (k : ℕ) → 1 ≤ k
+          → ((buffer : List ℕ) (ms : List Method) → N.counts.methods ≡ length ms → Sound buffer ms → MethodCells ms N.methods → first_row (differs ms) 1 ms ≡ some k)
+          → (a : Fault) → a ≡ fault_of (refused_at (get_or S.places k 0) 7) → {V : Type 0} (loaded : V → Module → Type 0) → Answers (load tables code) (Err a) ⊤ loaded
+      unfolding ◌>>=◌ agreed refusal
+      ends_differing six k lo first a ea loaded =
+          let w = taken in
+          refuses (load tables code) (get_or S.places k 0) 7 (closed six (some k) first ∙ ap (λ (i : ℕ). bad (refused_at i 7)) (sym (w.2.place.each k ∙ place_at w.0.places k lo))) (omega arith) a ea loaded
 
-        -- loaded
-        pub ends_loaded : k ≡ 0 → {V : Type 0} (v : V) → Answers (load tables code) (Ok v) ⊤ (λ u M. Holds M code N)
-        unfolding ◌>>=◌ agreed Answers
-        ends_loaded e v =
-            let w = taken in
-            subst (λ (x : Answer Refusal Module). Answers x (Ok v) ⊤ (λ u M. Holds M code N)) (sym (closed none (no_first _ (sym e ∙ found)))) (holds code w.0 N S w.2)
+      -- loaded
+      pub ends_loaded : eqb (last_byte S.last) 6 ≡ true
+          → ((buffer : List ℕ) (ms : List Method) → N.counts.methods ≡ length ms → Sound buffer ms → MethodCells ms N.methods → first_row (differs ms) 1 ms ≡ none)
+          → {V : Type 0} (v : V) → Answers (load tables code) (Ok v) ⊤ (λ u M. Holds M code N)
+      unfolding ◌>>=◌ agreed Answers
+      ends_loaded six first v =
+          let w = taken in
+          subst (λ (x : Answer Refusal Module). Answers x (Ok v) ⊤ (λ u M. Holds M code N)) (sym (closed six none first)) (holds code w.0 N S w.2)

@@ -1,19 +1,25 @@
 -- Searches over rows, one row at a time; lists of types beside their cells.
 use mathlib.Core.Path.{◌≡◌, refl, sym, ap, ◌∙◌, subst}
-use Prim.Native.Nat.{ℕ, zero, suc, ◌+◌, ◌≤◌, ◌<◌}
+use Prim.Native.Nat.{ℕ, zero, suc, ◌+◌, ◌-◌, ◌≤◌, ◌<◌}
 use mathlib.Core.Bool.{Bool, true, false, ◌&&◌, ◌||◌}
 use mathlib.Core.Option.{Option, none, some}
 use mathlib.Core.List.{List, [], ◌∷◌}
 use native.Mathlib.Omega.{arith}
 use native.Mathlib.Numerals.{add-one}
-use lib.ListN.{length, drop, drop_of_length-le}
-use lib.Dec.{ltb, eqb}
-use borrow.Author.Tests.{eq-eqb, ne_eqb, ltb-true, ltb-false}
+use Rattle.std.specs.Prelude.{◌↔◌, IsTrue, EachIndex}
+use Rattle.std.proofs.Common.{drop-cons}
+use lib.Pointwise.{pointwise}
+use lib.Seq.{get_or-drop, length-take-le}
+use Rattle.std.proofs.lemmas.List.{get_or-take}
+use lib.ListN.{length, get_or, take, drop, drop_of_length-le, length-drop}
+use lib.Dec.{eqb}
+use borrow.Author.Tests.{ne_eqb}
 use Rattle.model.specs.Answer.{pick, or_else, at, row, first_row}
 use Rattle.model.specs.Tables.{Ty, byte_of, eq_ty, eq_tys, Method, no_method, method_at}
 use Rattle.model.specs.Loading.{is_integer, all}
 use Rattle.loaded.specs.Holds.{byte_at}
 use Rattle.loader.proofs.Rows.{drop_at, at_past}
+use Rattle.loader.proofs.Ladder.{both_true}
 
 -- ---- The first row that passes a test
 
@@ -32,17 +38,27 @@ next_row p ms k h =
     ∙ ap (λ (i : ℕ). pick (p (k + 1) w.0) (some (k + 1)) (first_row p (k + 1 + 1) (drop i ms))) (sym (add-one k))
     ∙ ap (λ (x : Method). pick (p (k + 1) x) (some (k + 1)) (first_row p (k + 1 + 1) (drop (k + 1) ms))) (sym (method_at_lem w.0 ms k w.1))
 
-pub hit : (p : ℕ → Method → Bool) (ms : List Method) (k : ℕ) → k < length ms → p (k + 1) (method_at ms (k + 1)) ≡ true → first_row p (k + 1) (drop k ms) ≡ some (k + 1)
-unfolding pick
-hit p ms k h e = next_row p ms k h ∙ ap (λ (b : Bool). pick b (some (k + 1)) (first_row p (k + 1 + 1) (drop (k + 1) ms))) e
+module _ (p : ℕ → Method → Bool) (ms : List Method) (r : ℕ) (lo : 0 < r) where
+  row_is : r - 1 + 1 ≡ r
+  row_is = omega arith
 
-pub miss : (p : ℕ → Method → Bool) (ms : List Method) (k : ℕ) → k < length ms → p (k + 1) (method_at ms (k + 1)) ≡ false → first_row p (k + 1) (drop k ms) ≡ first_row p (k + 1 + 1) (drop (k + 1) ms)
-unfolding pick
-miss p ms k h e = next_row p ms k h ∙ ap (λ (b : Bool). pick b (some (k + 1)) (first_row p (k + 1 + 1) (drop (k + 1) ms))) e
+  at_row : r ≤ length ms → first_row p r (drop (r - 1) ms) ≡ pick (p r (method_at ms r)) (some r) (first_row p (r + 1) (drop (r + 1 - 1) ms))
+  at_row h =
+      let z : r - 1 + 1 ≡ r + 1 - 1 = omega arith in
+      subst (λ (i : ℕ). first_row p i (drop (r - 1) ms) ≡ pick (p i (method_at ms i)) (some i) (first_row p (i + 1) (drop (r + 1 - 1) ms))) row_is
+      (next_row p ms (r - 1) (omega arith) ∙ ap (λ (i : ℕ). pick (p (r - 1 + 1) (method_at ms (r - 1 + 1))) (some (r - 1 + 1)) (first_row p (r - 1 + 1 + 1) (drop i ms))) z)
 
-pub none_left : (p : ℕ → Method → Bool) (ms : List Method) (k : ℕ) → length ms ≤ k → first_row p (k + 1) (drop k ms) ≡ none
-unfolding first_row
-none_left p ms k h = ap (first_row p (k + 1)) (drop_of_length-le ms h)
+  pub hit : r ≤ length ms → p r (method_at ms r) ≡ true → first_row p r (drop (r - 1) ms) ≡ some r
+  unfolding pick
+  hit h e = at_row h ∙ ap (λ (b : Bool). pick b (some r) (first_row p (r + 1) (drop (r + 1 - 1) ms))) e
+
+  pub miss : r ≤ length ms → p r (method_at ms r) ≡ false → first_row p r (drop (r - 1) ms) ≡ first_row p (r + 1) (drop (r + 1 - 1) ms)
+  unfolding pick
+  miss h e = at_row h ∙ ap (λ (b : Bool). pick b (some r) (first_row p (r + 1) (drop (r + 1 - 1) ms))) e
+
+  pub none_left : length ms < r → first_row p r (drop (r - 1) ms) ≡ none
+  unfolding first_row
+  none_left h = ap (first_row p r) (drop_of_length-le ms (omega arith))
 
 -- ---- Types
 
@@ -62,65 +78,91 @@ integer_bytes (suc (suc (suc b))) nz h = absurd (omega arith)
 other_bytes : (b : ℕ) → (b ≡ 1 → ⊥) → (b ≡ 2 → ⊥) → eqb b 1 || eqb b 2 ≡ false
 other_bytes b one two = ap (λ (x : Bool). x || eqb b 2) (ne_eqb b 1 one) ∙ ne_eqb b 2 two
 
-module _ (l : List Ty) (k b : ℕ) (h : k < length l) (e : b ≡ byte_at (at l k)) where
-  pub all_on : (b ≡ 0 → ⊥) → b ≤ 2 → all is_integer (drop k l) ≡ all is_integer (drop (k + 1) l)
-  unfolding all is_integer eq_ty byte_of
-  all_on nz two =
-      let w = type_at l k h in
-      ap (all is_integer) w.2
-      ∙ ap (λ (x : Bool). x && all is_integer (drop (k + 1) l)) (subst (λ (i : ℕ). eqb i 1 || eqb i 2 ≡ true) (e ∙ w.1) (integer_bytes b nz two))
+integer_only : (b : ℕ) → eqb b 1 || eqb b 2 ≡ true → (0 < b) × (b ≤ 2)
+integer_only zero e = let f : false ≡ true = e in let z : ◌≡◌ {A = ℕ} 0 1 = cc in absurd (omega arith)
+integer_only (suc zero) e = (omega arith, omega arith)
+integer_only (suc (suc zero)) e = (omega arith, omega arith)
+integer_only (suc (suc (suc b))) e = let f : false ≡ true = sym (other_bytes (suc (suc (suc b))) (λ z. omega arith) (λ z. omega arith)) ∙ e in let z : ◌≡◌ {A = ℕ} 0 1 = cc in absurd (omega arith)
 
-  pub all_off : (b ≡ 1 → ⊥) → (b ≡ 2 → ⊥) → all is_integer (drop k l) ≡ false
-  unfolding all is_integer eq_ty byte_of
-  all_off one two =
-      let w = type_at l k h in
-      ap (all is_integer) w.2
-      ∙ ap (λ (x : Bool). x && all is_integer (drop (k + 1) l)) (subst (λ (i : ℕ). eqb i 1 || eqb i 2 ≡ false) (e ∙ w.1) (other_bytes b one two))
+-- integers, by their cells
+all_yes : (l : List Ty) (f : ℕ → ℕ) → ((k : ℕ) → k < length l → f k ≡ byte_at (at l k)) → ((k : ℕ) → k < length l → (0 < f k) × (f k ≤ 2)) → all is_integer l ≡ true
+unfolding all is_integer eq_ty byte_of at byte_at
+all_yes [] f e h = refl
+all_yes (t ∷ l) f e h =
+    let w = h 0 (omega arith) in
+    let first : eqb (byte_of t) 1 || eqb (byte_of t) 2 ≡ true = subst (λ (b : ℕ). eqb b 1 || eqb b 2 ≡ true) (e 0 (omega arith)) (integer_bytes (f 0) (λ z. omega (arith, w.0)) w.1) in
+    ap (λ (x : Bool). x && all is_integer l) first ∙ all_yes l (λ k. f (suc k)) (λ k q. e (suc k) (omega arith)) (λ k q. h (suc k) (omega arith))
 
-pub all_end : (l : List Ty) (k : ℕ) → length l ≤ k → all is_integer (drop k l) ≡ true
-unfolding all
-all_end l k h = ap (all is_integer) (drop_of_length-le l h)
+all_each : (l : List Ty) (f : ℕ → ℕ) → ((k : ℕ) → k < length l → f k ≡ byte_at (at l k)) → all is_integer l ≡ true → (k : ℕ) → k < length l → (0 < f k) × (f k ≤ 2)
+unfolding all is_integer eq_ty byte_of at byte_at
+all_each [] f e h k q = absurd (omega arith)
+all_each (t ∷ l) f e h zero q = integer_only (f 0) (ap (λ (b : ℕ). eqb b 1 || eqb b 2) (e 0 (omega arith)) ∙ (both_true (eqb (byte_of t) 1 || eqb (byte_of t) 2) (all is_integer l) h).0)
+all_each (t ∷ l) f e h (suc k) q = all_each l (λ i. f (suc i)) (λ i p. e (suc i) (omega arith)) (both_true (eqb (byte_of t) 1 || eqb (byte_of t) 2) (all is_integer l) h).1 k (omega arith)
 
-pub equal_end : (l m : List Ty) (k : ℕ) → length l ≡ length m → length l ≤ k → eq_tys (drop k l) (drop k m) ≡ true
-unfolding eq_tys
-equal_end l m k same h =
-    ap (λ (x : List Ty). eq_tys x (drop k m)) (drop_of_length-le l h) ∙ ap (eq_tys []) (drop_of_length-le m (subst (λ (n : ℕ). n ≤ k) same h))
+pub all_cells : (xs : List ℕ) (b : Bool) → (IsTrue b ↔ EachIndex xs (λ k. (0 < get_or xs k 0) × (get_or xs k 0 ≤ 2))) → (l : List Ty) → length xs ≡ length l
+    → ((k : ℕ) → k < length l → get_or xs k 0 ≡ byte_at (at l k)) → b ≡ all is_integer l
+all_cells xs true d l e h = sym (all_yes l (λ k. get_or xs k 0) h (λ k q. d.0 refl k (omega arith)))
+all_cells xs false d l e h = go (all is_integer l) refl
+  where
+    go : (c : Bool) → all is_integer l ≡ c → false ≡ all is_integer l
+    go false q = sym q
+    go true q = d.1 (λ k p. all_each l (λ k. get_or xs k 0) h q k (omega arith)) ∙ sym q
+
+pub all_part : (xs : List ℕ) (i a : ℕ) (b : Bool) → (IsTrue b ↔ EachIndex (take a (drop i xs)) (λ k. (0 < get_or (take a (drop i xs)) k 0) × (get_or (take a (drop i xs)) k 0 ≤ 2))) → (l : List Ty) → a ≡ length l → i + length l ≤ length xs
+    → ((k : ℕ) → k < length l → get_or xs (i + k) 0 ≡ byte_at (at l k)) → b ≡ all is_integer l
+all_part xs i a b d l ea hi h = all_cells (take a (drop i xs)) b d l (length-take-le a (drop i xs) (simp length-drop (omega arith)) ∙ ea) (λ k q. get_or-take a (drop i xs) k 0 (omega arith) ∙ get_or-drop i xs k 0 ∙ h k q)
 
 -- past a list there is no cell
 byte_past : (l : List Ty) (k : ℕ) → length l ≤ k → byte_at (at l k) ≡ 0
 unfolding byte_at
 byte_past l k h = ap byte_at (at_past l k h)
 
--- two lists of one length, a cell at a time
-module _ (l m : List Ty) (k a b : ℕ) (same : length l ≡ length m) (ea : a ≡ byte_at (at l k)) (eb : b ≡ byte_at (at m k)) where
-  heads : k < length l → (x : Bool) → (a ≡ b → x ≡ true) → ((a ≡ b → ⊥) → x ≡ false) → Dec (a ≡ b) → eq_tys (drop k l) (drop k m) ≡ x && eq_tys (drop (k + 1) l) (drop (k + 1) m)
-  unfolding eq_tys eq_ty
-  heads h x on off d =
-      let v = type_at l k h in
-      let w = type_at m k (omega arith) in
-      ap (λ (y : List Ty). eq_tys y (drop k m)) v.2
-      ∙ ap (eq_tys (v.0 ∷ drop (k + 1) l)) w.2
-      ∙ ap (λ (y : Bool). y && eq_tys (drop (k + 1) l) (drop (k + 1) m)) (go v.0 w.0 (ea ∙ v.1) (eb ∙ w.1) d)
-    where
-      go : (t u : Ty) → a ≡ byte_of t → b ≡ byte_of u → Dec (a ≡ b) → eqb (byte_of t) (byte_of u) ≡ x
-      go t u p q (yes e) = eq-eqb (byte_of t) (byte_of u) (sym p ∙ e ∙ q) ∙ sym (on e)
-      go t u p q (no n) = ne_eqb (byte_of t) (byte_of u) (λ e. n (p ∙ e ∙ sym q)) ∙ sym (off n)
+-- two lists of one length beside their cells, which are 0 behind them
+cells_same : (xs : List ℕ) (n i j : ℕ) → i + n ≤ length xs → j + n ≤ length xs → (l m : List Ty) → length l ≡ length m → length l ≤ n
+    → ((k : ℕ) → k < n → get_or xs (i + k) 0 ≡ byte_at (at l k)) → ((k : ℕ) → k < n → get_or xs (j + k) 0 ≡ byte_at (at m k))
+    → pointwise eqb (take n (drop i xs)) (take n (drop j xs)) ≡ eq_tys l m
+unfolding eq_tys eq_ty at byte_at
+cells_same xs zero i j hi hj [] [] s f p q = refl
+cells_same xs zero i j hi hj [] (u ∷ m) s f p q = absurd (omega arith)
+cells_same xs zero i j hi hj (t ∷ l) m s f p q = absurd (omega arith)
+cells_same xs (suc n) i j hi hj l m s f p q =
+    ap (λ (y : List ℕ). pointwise eqb (take (suc n) y) (take (suc n) (drop j xs))) (drop-cons xs i 0 (omega arith))
+    ∙ ap (λ (y : List ℕ). pointwise eqb (take (suc n) (get_or xs i 0 ∷ drop (suc i) xs)) (take (suc n) y)) (drop-cons xs j 0 (omega arith))
+    ∙ go l m s f p q (cells_same xs n (suc i) (suc j) (omega arith) (omega arith))
+  where
+    first : (i : ℕ) (l : List Ty) → ((k : ℕ) → k < suc n → get_or xs (i + k) 0 ≡ byte_at (at l k)) → get_or xs i 0 ≡ byte_at (at l 0)
+    first i l p = let z : i ≡ i + 0 = omega arith in ap (λ (k : ℕ). get_or xs k 0) z ∙ p 0 (omega arith)
 
-  pub equal_on : a ≡ b → eq_tys (drop k l) (drop k m) ≡ eq_tys (drop (k + 1) l) (drop (k + 1) m)
-  equal_on e = go (ltb k (length l)) refl
-    where
-      go : (x : Bool) → ltb k (length l) ≡ x → eq_tys (drop k l) (drop k m) ≡ eq_tys (drop (k + 1) l) (drop (k + 1) m)
-      go true q = heads (ltb-true k (length l) q) true (λ p. refl) (λ n. absurd (n e)) (yes e)
-      go false q = let h = ltb-false k (length l) q in equal_end l m k same h ∙ sym (equal_end l m (k + 1) same (omega arith))
+    later : (i k : ℕ) → suc i + k ≡ i + suc k
+    later i k = omega arith
 
-  pub equal_off : (a ≡ b → ⊥) → eq_tys (drop k l) (drop k m) ≡ false
-  equal_off n = go (ltb k (length l)) refl
-    where
-      go : (x : Bool) → ltb k (length l) ≡ x → eq_tys (drop k l) (drop k m) ≡ false
-      go true q = heads (ltb-true k (length l) q) false (λ e. absurd (n e)) (λ p. refl) (no n)
-      go false q =
-          let h = ltb-false k (length l) q in
-          absurd (n (ea ∙ byte_past l k h ∙ sym (byte_past m k (subst (λ (i : ℕ). i ≤ k) same h)) ∙ sym eb))
+    none_left : (i : ℕ) → ((k : ℕ) → k < suc n → get_or xs (i + k) 0 ≡ byte_at (at [] k)) → (k : ℕ) → k < n → get_or xs (suc i + k) 0 ≡ byte_at (at [] k)
+    none_left i p k h = ap (λ (x : ℕ). get_or xs x 0) (later i k) ∙ p (suc k) (omega arith)
+
+    some_left : (i : ℕ) (t : Ty) (l : List Ty) → ((k : ℕ) → k < suc n → get_or xs (i + k) 0 ≡ byte_at (at (t ∷ l) k)) → (k : ℕ) → k < n → get_or xs (suc i + k) 0 ≡ byte_at (at l k)
+    some_left i t l p k h = ap (λ (x : ℕ). get_or xs x 0) (later i k) ∙ p (suc k) (omega arith)
+
+    Left : List Ty → List Ty → Type 0
+    Left l m =
+        length l ≡ length m → length l ≤ n → ((k : ℕ) → k < n → get_or xs (suc i + k) 0 ≡ byte_at (at l k)) → ((k : ℕ) → k < n → get_or xs (suc j + k) 0 ≡ byte_at (at m k))
+        → pointwise eqb (take n (drop (suc i) xs)) (take n (drop (suc j) xs)) ≡ eq_tys l m
+
+    go : (l m : List Ty) → length l ≡ length m → length l ≤ suc n
+        → ((k : ℕ) → k < suc n → get_or xs (i + k) 0 ≡ byte_at (at l k)) → ((k : ℕ) → k < suc n → get_or xs (j + k) 0 ≡ byte_at (at m k))
+        → ((l m : List Ty) → Left l m) → eqb (get_or xs i 0) (get_or xs j 0) && pointwise eqb (take n (drop (suc i) xs)) (take n (drop (suc j) xs)) ≡ eq_tys l m
+    go [] [] s f p q rest =
+        (λ x. eqb (first i [] p x) (first j [] q x) && pointwise eqb (take n (drop (suc i) xs)) (take n (drop (suc j) xs)))
+        ∙ rest [] [] refl (omega arith) (none_left i p) (none_left j q)
+    go [] (u ∷ m) s f p q rest = absurd (omega arith)
+    go (t ∷ l) [] s f p q rest = absurd (omega arith)
+    go (t ∷ l) (u ∷ m) s f p q rest =
+        (λ x. eqb (first i (t ∷ l) p x) (first j (u ∷ m) q x) && pointwise eqb (take n (drop (suc i) xs)) (take n (drop (suc j) xs)))
+        ∙ ap (λ (b : Bool). eqb (byte_of t) (byte_of u) && b) (rest l m (omega arith) (omega arith) (some_left i t l p) (some_left j u m q))
+
+pub parts_same : (xs : List ℕ) (n i j a b : ℕ) → a ≡ n → b ≡ n → i + n ≤ length xs → j + n ≤ length xs → (l m : List Ty) → length l ≡ length m → length l ≤ n
+    → ((k : ℕ) → k < n → get_or xs (i + k) 0 ≡ byte_at (at l k)) → ((k : ℕ) → k < n → get_or xs (j + k) 0 ≡ byte_at (at m k))
+    → pointwise eqb (take a (drop i xs)) (take b (drop j xs)) ≡ eq_tys l m
+parts_same xs n i j a b ea eb hi hj l m s f p q = (λ x. pointwise eqb (take (ea x) (drop i xs)) (take (eb x) (drop j xs))) ∙ cells_same xs n i j hi hj l m s f p q
 
 -- lists of different lengths are not the same
 pub lengths_differ : (l m : List Ty) → (length l ≡ length m → ⊥) → eq_tys l m ≡ false

@@ -1,30 +1,25 @@
 // After the last record: the missing entry, then an override with another return or other parameters.
-ghost use Rattle.std.specs.Prelude.{◌≡◌, List, ℕ, ◌+◌, ◌*◌, ◌≤◌, ◌<◌, length, get_or};
-ghost use Rattle.model.specs.Answer.{or_else, at as element_at, first_row};
+ghost use Rattle.std.specs.Prelude.{◌≡◌, List, ℕ, ◌+◌, ◌*◌, ◌≤◌, ◌<◌, length, get_or, IfSome, MatchOption};
+ghost use Rattle.std.proofs.Math.Option.{none, some};
+ghost use Rattle.model.specs.Answer.{at as element_at, first_row};
 ghost use Rattle.model.specs.Tables.{Ty, Method, method_at, eq_tys};
 ghost use Rattle.model.specs.Loading.{differs as differs_of};
 ghost use Rattle.loaded.specs.Holds.{byte_at};
 ghost use Rattle.loader.specs.Stands.{MethodCells, Sound, Earlier};
 
-use crate::ranges::wide;
-use loaded::columns::{ARGUMENT_COUNT, METHOD, OVERRIDDEN, RETURN};
+use loaded::columns::{ARGUMENT_COUNT, LOCALS, METHOD, OVERRIDDEN, RETURN};
 
 // Whether two methods' parameters, behind `this`, have the same types.
 fn same_params(methods: &[u8; 4128], a: usize, b: usize) -> bool
-    requires { (a ≤ 128) × (b ≤ 128) }
+    requires a_at_most { a ≤ 128 }
+    requires b_at_most { b ≤ 128 }
     ensures { (l m : List Ty) → length l ≡ length m → length l ≤ 7
         → ((k : ℕ) → k < 7 → get_or methods.now (a * 32 + (1 + k)) 0 ≡ byte_at (element_at l k))
         → ((k : ℕ) → k < 7 → get_or methods.now (b * 32 + (1 + k)) 0 ≡ byte_at (element_at m k)) → result ≡ eq_tys l m }
 {
-    let mut k = 0;
-    while k < 7 {
-        let column = 1 + k;
-        if methods[a * METHOD + column] != methods[b * METHOD + column] {
-            return false;
-        }
-        k = k + 1;
-    }
-    true
+    let first = &methods[a * METHOD + 1..a * METHOD + LOCALS];
+    let second = &methods[b * METHOD + 1..b * METHOD + LOCALS];
+    first == second
 }
 
 // Whether a method overrides one with another return or other parameters.
@@ -35,7 +30,7 @@ fn differs(methods: &[u8; 4128], row: usize) -> bool
         → result ≡ differs_of ms row (method_at ms row) }
 {
     let base = row * METHOD;
-    let v = wide(methods[base + OVERRIDDEN]);
+    let v = methods[base + OVERRIDDEN] as usize;
     if v == 0 {
         return false;
     }
@@ -49,21 +44,18 @@ fn differs(methods: &[u8; 4128], row: usize) -> bool
     !same_params(methods, row, v)
 }
 
-// The lowest of the first n methods that differs from what it overrides, 0 where there is none.
-pub fn first_differing(methods: &[u8; 4128], n: usize) -> usize
+// The lowest of the first n methods that differs from what it overrides.
+pub fn first_differing(methods: &[u8; 4128], n: usize) -> Option<usize>
     requires n_at_most { n ≤ 128 }
     requires earlier { Earlier methods.now }
-    ensures result_at_most { result ≤ n }
-    ensures as_model { ((code : List ℕ) (ms : List Method) → n ≡ length ms → Sound code ms → MethodCells ms methods.now
-        → result ≡ or_else (first_row (differs_of ms) 1 ms) 0) }
+    ensures result_at_most { IfSome result (λ row. (1 ≤ row) × (row ≤ n)) }
+    ensures as_model { (code : List ℕ) (ms : List Method) → n ≡ length ms → Sound code ms → MethodCells ms methods.now
+        → MatchOption result (first_row (differs_of ms) 1 ms ≡ none) (λ row. first_row (differs_of ms) 1 ms ≡ some row) }
 {
-    let mut i = 0;
-    while i < n {
-        let row = i + 1;
+    for row in 1..=n {
         if differs(methods, row) {
-            return row;
+            return Some(row);
         }
-        i = row;
     }
-    0
+    None
 }

@@ -1,5 +1,5 @@
 // The entry record, and what the entry may be.
-ghost use Rattle.std.specs.Prelude.{◌≡◌, List, ℕ, ◌+◌, ◌≤◌, ◌<◌, length, get_or};
+ghost use Rattle.std.specs.Prelude.{◌≡◌, List, ℕ, ◌+◌, ◌≤◌, ◌<◌, length, get_or, ◌↔◌, IsTrue, EachIndex, slice_index};
 ghost use Rattle.model.specs.Answer.{at as element_at};
 ghost use Rattle.model.specs.Tables.{Ty};
 ghost use Rattle.model.specs.Loading.{Loading as LoadingOf, is_integer, all, entry_record};
@@ -12,34 +12,18 @@ ghost use Rattle.loader.specs.Allowed.{entry_allowed};
 use crate::kind::Kind;
 use crate::notes::Notes;
 use crate::numbers;
-use crate::ranges::{is_row, wide};
+use crate::ranges::is_row;
 use crate::refusal::Refusal;
 use loaded::Loaded;
-use loaded::columns::{ARGUMENT_COUNT, METHOD, RETURN, SORT};
+use loaded::columns::{ARGUMENT_COUNT, LOCALS, METHOD, RETURN, SORT};
 
-// Whether the first n of the eight types from `base` on are int32 or int64.
-fn integers(methods: &[u8; 4128], base: usize, n: u8) -> bool
-    requires { base + 8 ≤ 4128 }
-    ensures { (l : List Ty) → n ≡ length l → length l ≤ 8
-        → ((k : ℕ) → k < 8 → get_or methods.now (base + k) 0 ≡ byte_at (element_at l k))
-        → result ≡ all is_integer l }
+// Whether types are int32 or int64.
+fn integers(types: &[u8]) -> bool
+    ensures { IsTrue result ↔ EachIndex types.now (λ k. (0 < slice_index types.now k) × (slice_index types.now k ≤ 2)) }
 {
-    let mut k = 0;
-    while k < 8 {
-        if wide(n) <= k {
-            return true;
-        }
-        let at = base + k;
-        let t = methods[at];
-        if t == 0 {
-            return false;
-        }
-        if numbers::INT64 < t {
-            return false;
-        }
-        k = k + 1;
-    }
-    true
+    types
+        .iter()
+        .all(|t| numbers::VOID < *t && *t <= numbers::INT64)
 }
 
 // The entry is static, with int32 or int64 parameters and no class as return type.
@@ -60,7 +44,8 @@ fn entry_fits(methods: &[u8; 4128], n: usize, r: u8) -> bool
     if numbers::OBJECT <= methods[base + RETURN] {
         return false;
     }
-    integers(methods, base, methods[base + ARGUMENT_COUNT])
+    let count = LOCALS.min(methods[base + ARGUMENT_COUNT] as usize);
+    integers(&methods[base..base + count])
 }
 
 // Whether the entry record is taken; `fits` is the rule on the entry.

@@ -10,7 +10,7 @@ ghost use Rattle.loader.specs.Allowed.{slot_room, field_allowed};
 use crate::kind::Kind;
 use crate::notes::Notes;
 use crate::numbers;
-use crate::ranges::{is_row, type_fits, wide};
+use crate::ranges::{is_row, type_fits};
 use crate::refusal::Refusal;
 use loaded::columns::{FIELD, FIELD_OWNER, SLOT, STATIC, TYPE};
 use loaded::{Counts, Loaded};
@@ -26,11 +26,11 @@ fn held(parents: &[u8; 33], own: &[u8; 33], c: usize) -> usize
     if numbers::MOST_CLASSES < c {
         return 0;
     }
-    let up = wide(parents[c]);
+    let up = parents[c] as usize;
     if c <= up {
         return 0;
     }
-    held(parents, own, up) + wide(own[c])
+    held(parents, own, up) + own[c] as usize
 }
 
 // The cell of the next field: among the static fields, or among its class's.

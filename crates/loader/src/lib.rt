@@ -48,11 +48,10 @@ fn read_into(tables: &[u8], code: &[u8], loaded: &mut Loaded) -> Result<(), Faul
     if !notes.ended() {
         return Err(Refusal::Order.at(tables.len()));
     }
-    let row = first_differing(&loaded.methods, loaded.counts.methods);
-    if row != 0 {
-        return Err(Refusal::Override.at(notes.places[row]));
+    match first_differing(&loaded.methods, loaded.counts.methods) {
+        Some(row) => Err(Refusal::Override.at(notes.places[row])),
+        None => Ok(()),
     }
-    Ok(())
 }
 
 // Loads tables and code into a lent module, whatever it held; after a refusal all of it is 0.

@@ -8,7 +8,7 @@ ghost use Rattle.loader.specs.Allowed.{local_allowed};
 use crate::kind::Kind;
 use crate::notes::Notes;
 use crate::numbers;
-use crate::ranges::{type_fits, wide};
+use crate::ranges::type_fits;
 use crate::refusal::Refusal;
 use loaded::Loaded;
 use loaded::columns::{LOCAL_COUNT, LOCALS, METHOD};
@@ -37,7 +37,7 @@ pub fn local_record(loaded: &mut Loaded, notes: &mut Notes, t: u8) -> Result<(),
     let base = loaded.counts.methods * METHOD;
     let count = loaded.methods[base + LOCAL_COUNT];
     local_allowed(notes.last, loaded.counts.classes, t, count)?;
-    let column = LOCALS + wide(count);
+    let column = LOCALS + count as usize;
     loaded.methods[base + LOCAL_COUNT] = count + 1;
     loaded.methods[base + column] = t;
     notes.last = Some(Kind::Local);

@@ -12,7 +12,7 @@ use crate::kind::Kind;
 use crate::notes::Notes;
 use crate::numbers;
 use crate::overriding::{override_fits, root_of};
-use crate::ranges::{is_row, type_fits, wide};
+use crate::ranges::{is_row, type_fits};
 use crate::refusal::Refusal;
 use loaded::columns::{
     ARGUMENT_COUNT, LENGTH, MAX_STACK, METHOD, OFFSET, OVERRIDDEN, OWNER, PART, RETURN, ROOT, SORT,
@@ -39,8 +39,8 @@ pub fn read_body(tables: &[u8], at: usize) -> Body
     requires { at + 12 ≤ length tables.now }
     ensures { result ≡ body_of tables.now at }
 {
-    let low = wide(tables[at + 6]) + 256 * wide(tables[at + 7]);
-    let high = wide(tables[at + 8]) + 256 * wide(tables[at + 9]);
+    let low = tables[at + 6] as usize + 256 * tables[at + 7] as usize;
+    let high = tables[at + 8] as usize + 256 * tables[at + 9] as usize;
     Body {
         owner: tables[at + 1],
         sort: tables[at + 2],
@@ -48,7 +48,7 @@ pub fn read_body(tables: &[u8], at: usize) -> Body
         stack: tables[at + 4],
         overridden: tables[at + 5],
         offset: low + 65536 * high,
-        size: wide(tables[at + 10]) + 256 * wide(tables[at + 11]),
+        size: tables[at + 10] as usize + 256 * tables[at + 11] as usize,
     }
 }
 

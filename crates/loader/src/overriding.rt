@@ -8,7 +8,6 @@ ghost use Rattle.loader.specs.Stands.{ClassRows, MethodCells, root_in};
 
 use crate::method::Body;
 use crate::numbers;
-use crate::ranges::wide;
 use ancestor::descends;
 use loaded::columns::{METHOD, OWNER, ROOT, SORT};
 
@@ -17,16 +16,11 @@ fn taken(methods: &[u8; 4128], n: usize, c: u8, q: u8) -> bool
     requires { n ≤ 128 }
     ensures { (ms : List Method) → n ≡ length ms → MethodCells ms methods.now → result ≡ not (is_none (of_root ms c q)) }
 {
-    let mut i = 0;
-    while i < n {
-        let row = i + 1;
+    for row in 1..=n {
         let base = row * METHOD;
-        if methods[base + OWNER] == c {
-            if methods[base + ROOT] == q {
-                return true;
-            }
+        if methods[base + OWNER] == c && methods[base + ROOT] == q {
+            return true;
         }
-        i = row;
     }
     false
 }
@@ -34,9 +28,9 @@ fn taken(methods: &[u8; 4128], n: usize, c: u8, q: u8) -> bool
 // An overridden row is 0, or an earlier virtual method of a proper ancestor whose root the class has no method of yet.
 pub fn override_fits(b: Body, n: usize, parents: &[u8; 33], methods: &[u8; 4128]) -> bool
     requires { n ≤ 128 }
-    ensures as_model { (result ≡ true → b.overridden ≤ n) }
-    ensures override_rule { ((L : LoadingOf) → n ≡ length L.methods → ClassRows L.parents parents.now
-        → MethodCells L.methods methods.now → OverrideRule L b.owner b.sort b.overridden result) }
+    ensures earlier { result ≡ true → b.overridden ≤ n }
+    ensures override_rule { (L : LoadingOf) → n ≡ length L.methods → ClassRows L.parents parents.now
+        → MethodCells L.methods methods.now → OverrideRule L b.owner b.sort b.overridden result }
 {
     let v = b.overridden as usize;
     if v == 0 {
@@ -56,10 +50,8 @@ pub fn override_fits(b: Body, n: usize, parents: &[u8; 33], methods: &[u8; 4128]
     if above == b.owner {
         return false;
     }
-    if descends(parents, b.owner as usize, wide(above)) {
-        return !taken(methods, n, b.owner, methods[base + ROOT]);
-    }
-    false
+    descends(parents, b.owner as usize, above as usize)
+        && !taken(methods, n, b.owner, methods[base + ROOT])
 }
 
 // A method's root is itself, or the root of what it overrides.

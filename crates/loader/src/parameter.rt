@@ -8,7 +8,7 @@ ghost use Rattle.loader.specs.Allowed.{param_allowed};
 use crate::kind::Kind;
 use crate::notes::Notes;
 use crate::numbers;
-use crate::ranges::{type_fits, wide};
+use crate::ranges::type_fits;
 use crate::refusal::Refusal;
 use loaded::Loaded;
 use loaded::columns::{ARGUMENT_COUNT, METHOD, SORT};
@@ -47,7 +47,7 @@ pub fn param_record(loaded: &mut Loaded, notes: &mut Notes, t: u8) -> Result<(),
     let count = loaded.methods[base + ARGUMENT_COUNT];
     let sort = loaded.methods[base + SORT];
     param_allowed(notes.last, loaded.counts.classes, t, count, sort)?;
-    let column = wide(count);
+    let column = count as usize;
     loaded.methods[base + ARGUMENT_COUNT] = count + 1;
     loaded.methods[base + column] = t;
     notes.last = Some(Kind::Parameter);

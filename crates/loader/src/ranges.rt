@@ -1,25 +1,16 @@
 // Ranges that records of several kinds share: rows and types.
-ghost use Rattle.std.specs.Prelude.{◌≡◌, ◌<◌};
+ghost use Rattle.std.specs.Prelude.{◌≡◌};
 ghost use Rattle.model.specs.Loading.{within as within_of};
 ghost use Rattle.loader.specs.Allowed.{is_type};
 
 use crate::numbers;
 
-// A byte as a number, with its range.
-pub fn wide(x: u8) -> usize
-    ensures { (result ≡ x) × (result < 256) }
-{
-    x as usize
-}
-
 // Whether there is a row of that number.
+#[tactic(auto, unfolding(model::specs::Loading::within))]
 pub fn is_row(rows: usize, r: u8) -> bool
     ensures { result ≡ within_of 1 rows r }
 {
-    if r < 1 {
-        return false;
-    }
-    r as usize <= rows
+    1 <= r && r as usize <= rows
 }
 
 // Whether a byte declares a type.

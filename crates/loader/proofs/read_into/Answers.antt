@@ -15,17 +15,17 @@ returns-in_err-read_records c = let p = err_from_is_err_and c.from_residual.resu
 pub returns-then-not-ended : goal.returns-then-not-ended
 returns-then-not-ended c = ends_open c.args.tables.now c.args.code.now (sym c.if-too_long.false ∙ c.too_long.ensures) _ _ _ c.in_ok-read_records.ensures (sym c.ended.ensures ∙ c.if-not-ended.true) _ c.at-then-not-ended.ensures _
 
-pub first_differing-row-requires : goal.first_differing-row-requires
-first_differing-row-requires c = record { n_at_most = few_methods c.args.tables.now c.args.code.now (sym c.if-too_long.false ∙ c.too_long.ensures) _ _ _ c.in_ok-read_records.ensures; earlier = low_methods c.args.tables.now c.args.code.now (sym c.if-too_long.false ∙ c.too_long.ensures) _ _ _ c.in_ok-read_records.ensures }
+pub first_differing-requires : goal.first_differing-requires
+first_differing-requires c = record { n_at_most = few_methods c.args.tables.now c.args.code.now (sym c.if-too_long.false ∙ c.too_long.ensures) _ _ _ c.in_ok-read_records.ensures; earlier = low_methods c.args.tables.now c.args.code.now (sym c.if-too_long.false ∙ c.too_long.ensures) _ _ _ c.in_ok-read_records.ensures }
 
 pub offset_bounds-notes-row : goal.offset_bounds-notes-row
-offset_bounds-notes-row c = omega (arith, c.first_differing-row.ensures.result_at_most, few_methods c.args.tables.now c.args.code.now (sym c.if-too_long.false ∙ c.too_long.ensures) _ _ _ c.in_ok-read_records.ensures)
+offset_bounds-notes-row c = omega (arith, c.in-Some.ensures.result_at_most, few_methods c.args.tables.now c.args.code.now (sym c.if-too_long.false ∙ c.too_long.ensures) _ _ _ c.in_ok-read_records.ensures)
 
 pub bounds-notes-row : goal.bounds-notes-row
-bounds-notes-row c = omega (arith, c.first_differing-row.ensures.result_at_most, few_methods c.args.tables.now c.args.code.now (sym c.if-too_long.false ∙ c.too_long.ensures) _ _ _ c.in_ok-read_records.ensures)
+bounds-notes-row c = omega (arith, c.in-Some.ensures.result_at_most, few_methods c.args.tables.now c.args.code.now (sym c.if-too_long.false ∙ c.too_long.ensures) _ _ _ c.in_ok-read_records.ensures)
 
-pub returns-then-row-ne0 : goal.returns-then-row-ne0
-returns-then-row-ne0 c = ends_differing c.args.tables.now c.args.code.now (sym c.if-too_long.false ∙ c.too_long.ensures) _ _ _ c.in_ok-read_records.ensures (sym c.ended.ensures ∙ c.if-not-ended.false) _ c.first_differing-row.ensures.as_model c.if-row-ne0.true _ c.at-then-row-ne0.ensures _
+pub returns-in-Some : goal.returns-in-Some
+returns-in-Some c = ends_differing c.args.tables.now c.args.code.now (sym c.if-too_long.false ∙ c.too_long.ensures) _ _ _ c.in_ok-read_records.ensures (sym c.ended.ensures ∙ c.if-not-ended.false) _ c.in-Some.ensures.result_at_most.0 c.in-Some.ensures.as_model _ c.at-in-Some.ensures _
 
-pub returns : goal.returns
-returns c = ends_loaded c.args.tables.now c.args.code.now (sym c.if-too_long.false ∙ c.too_long.ensures) _ _ _ c.in_ok-read_records.ensures (sym c.ended.ensures ∙ c.if-not-ended.false) _ c.first_differing-row.ensures.as_model c.if-row-ne0.false _
+pub returns-in-None : goal.returns-in-None
+returns-in-None c = ends_loaded c.args.tables.now c.args.code.now (sym c.if-too_long.false ∙ c.too_long.ensures) _ _ _ c.in_ok-read_records.ensures (sym c.ended.ensures ∙ c.if-not-ended.false) c.in-None.ensures.as_model _

@@ -1,5 +1,6 @@
 -- `loader::local::local_record` meets its contract.
 use native.Mathlib.Omega.{arith}
+use Rattle.std.proofs.Common.{refl}
 use Rattle.std.proofs.lemmas.Result.{err_from_is_err_and}
 use Rattle.loader.proofs.Open.{refuse, local_open}
 use Rattle.loader.proofs.Later.{local_goes, local_taken}
@@ -13,7 +14,7 @@ pub overflow_add-loaded : goal.overflow_add-loaded
 overflow_add-loaded c = omega (arith, local_open _ _ _ _ c.in_ok-local_allowed.ensures)
 
 pub bounds-loaded-base-3 : goal.bounds-loaded-base-3
-bounds-loaded-base-3 c = omega (arith, local_open _ _ _ _ c.in_ok-local_allowed.ensures, c.wide-column.ensures.0, c.requires.methods)
+bounds-loaded-base-3 c = omega (arith, local_open _ _ _ _ c.in_ok-local_allowed.ensures, c.requires.methods)
 
 pub returns : goal.returns
-returns c = λ code L S. local_taken code L _ _ S _ c.in_ok-local_allowed.ensures _ c.wide-column.ensures.0
+returns c = λ code L S. local_taken code L _ _ S _ c.in_ok-local_allowed.ensures _ refl

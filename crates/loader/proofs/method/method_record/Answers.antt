@@ -18,7 +18,7 @@ pub this_byte-this-requires : goal.this_byte-this-requires
 this_byte-this-requires c = omega (arith, (method_open _ _ _ _ _ _ _ _ _ _ c.in_ok-method_allowed.ensures).0, c.requires.classes)
 
 pub root_of-root-requires : goal.root_of-root-requires
-root_of-root-requires c = (let w = method_open _ _ _ _ _ _ _ _ _ _ c.in_ok-method_allowed.ensures in omega (arith, w.1), let w = method_open _ _ _ _ _ _ _ _ _ _ c.in_ok-method_allowed.ensures in let v = c.override_fits-over.ensures.as_model w.2 in omega (arith, w.1))
+root_of-root-requires c = (let w = method_open _ _ _ _ _ _ _ _ _ _ c.in_ok-method_allowed.ensures in omega (arith, w.1), let w = method_open _ _ _ _ _ _ _ _ _ _ c.in_ok-method_allowed.ensures in let v = c.override_fits-over.ensures.earlier w.2 in omega (arith, w.1))
 
 pub fill_row-requires : goal.fill_row-requires
 fill_row-requires c = omega (arith, (method_open _ _ _ _ _ _ _ _ _ _ c.in_ok-method_allowed.ensures).1)
