@@ -63,7 +63,7 @@ module _ (fields initialisers ancestors : List ℕ) (y : Stay) (c : Work) (r nex
         unfolding ldfld_row guard ◌>>=◌
         ldfld_starts = simp (all_there y c 1 (omega arith), eq-eqb _ _ k, ← q, not-false t f, v)
 
-        pub ldfld_waits : (e ≡ 0 → ⊥) → Meets 2 e (with_regs c (moved_to c.regs e (sp_of c))) c (ldfld_row fields initialisers ancestors y c r next)
+        pub ldfld_waits : (e ≡ 0 → ⊥) → Meets 2 e c c (ldfld_row fields initialisers ancestors y c r next)
         ldfld_waits n = comes_first initialisers c (loads fields c r next) s ldfld_starts n
 
         module _ (z : e ≡ 0) where
@@ -105,7 +105,7 @@ module _ (fields initialisers ancestors : List ℕ) (y : Stay) (c : Work) (r nex
           unfolding stfld_row guard ◌>>=◌
           stfld_starts = simp (all_there y c 2 two, eq-eqb _ _ k, ← q, not-false t f, ← p, not-false u g, v)
 
-          pub stfld_waits : (e ≡ 0 → ⊥) → Meets 2 e (with_regs c (moved_to c.regs e (sp_of c))) c (stfld_row fields initialisers ancestors y c r next)
+          pub stfld_waits : (e ≡ 0 → ⊥) → Meets 2 e c c (stfld_row fields initialisers ancestors y c r next)
           stfld_waits n = comes_first initialisers c (stores fields c r next) s stfld_starts n
 
           module _ (z : e ≡ 0) where
@@ -138,7 +138,7 @@ module _ (fields initialisers ancestors : List ℕ) (y : Stay) (c : Work) (r nex
       unfolding stsfld_row guard ◌>>=◌
       stsfld_starts = simp (all_there y c 1 (omega arith), ← p, not-false u g, v)
 
-      pub stsfld_waits : (e ≡ 0 → ⊥) → Meets 2 e (with_regs c (moved_to c.regs e (sp_of c))) c (stsfld_row fields initialisers ancestors y c r next)
+      pub stsfld_waits : (e ≡ 0 → ⊥) → Meets 2 e c c (stsfld_row fields initialisers ancestors y c r next)
       stsfld_waits n = comes_first initialisers c (stores_static fields c r next) s stsfld_starts n
 
       pub stsfld_goes : {o x : ℕ} → e ≡ 0 → x ≡ field_cell fields r 3
@@ -156,7 +156,7 @@ module _ (fields initialisers : List ℕ) (y : Stay) (c : Work) (r next : ℕ) w
     unfolding ldsfld_row guard ◌>>=◌
     ldsfld_starts = simp (lt-ltb _ _ room, v)
 
-    pub ldsfld_waits : (e ≡ 0 → ⊥) → Meets 2 e (with_regs c (moved_to c.regs e (sp_of c))) c (ldsfld_row fields initialisers y c r next)
+    pub ldsfld_waits : (e ≡ 0 → ⊥) → Meets 2 e c c (ldsfld_row fields initialisers y c r next)
     ldsfld_waits n = comes_first initialisers c (loads_static fields c r next) s ldsfld_starts n
 
     pub ldsfld_goes : {o j x : ℕ} → e ≡ 0 → j ≡ kind_of_byte (field_cell fields r 2) → x ≡ field_cell fields r 3

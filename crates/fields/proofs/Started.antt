@@ -49,6 +49,6 @@ module _ (initialisers : List ℕ) (c : Work) (then : List ℕ → Answer ℕ We
   unfolding pick
   comes n = q ∙ (s.says c then refl ∙ simp (ne_eqb _ _ n))
 
-  pub comes_first : (e ≡ 0 → ⊥) → Meets 2 e (with_regs c (moved_to c.regs e (sp_of c))) c said
+  pub comes_first : (e ≡ 0 → ⊥) → Meets 2 e c c said
   unfolding answer pick
   comes_first n = record { says = sym (comes n); kept = λ _. refl }

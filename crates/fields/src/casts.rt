@@ -3,15 +3,14 @@ ghost use Rattle.std.specs.Prelude.{◌≡◌, ◌≤◌, ◌<◌, length, get_o
 ghost use Rattle.model.specs.Answer.{pick};
 ghost use Rattle.state.specs.View.{Work};
 ghost use Rattle.state.specs.Work.{Tables, acts_w};
-ghost use Rattle.state.specs.Meets.{Stays, Topped, Placed, on_stack, Meets};
-ghost use Rattle.in_frame.specs.Tries.{Own};
+ghost use Rattle.state.specs.Meets.{Stays, Topped, Placed, on_stack};
+ghost use Rattle.state.specs.Steps.{Own, ComesTo};
 
 use crate::members::SIZE;
 use crate::named::class_named;
-use in_frame::Tried;
-use in_frame::stack::{ends, on};
-use state::Stay;
+use state::ending::{Ending, ends};
 use state::fit::refers;
+use state::{Stay, Step};
 
 // A reference stays where it is null or of a class that descends from the token's; else isinst puts null in its place, and castclass ends the run.
 pub fn cast(
@@ -25,34 +24,39 @@ pub fn cast(
     classes: &[u8; 256],
     ancestors: &[u64; 33],
     count: usize,
-) -> Tried
+) -> Step
     requires stays { Stays y }
     requires topped { Topped y sp }
     requires at_range { (at < length part.now) × (at ≤ 1024) × (count ≤ 32) }
     requires get_or_is { get_or part.now at 0 ≡ pick isinst 0x75 0x74 }
     requires placed { Placed classes.now }
-    ensures own { Own y result }
+    ensures own { Own y sp result }
     ensures meets { ((P : Tables) (c : Work) → P.class_count ≡ count → P.ancestors ≡ ancestors.now → c.classes ≡ classes.now →
         let before = on_stack c at sp cells.old kinds.now in
-        Meets result.gone.how result.gone.at (on_stack c result.gone.at result.gone.sp cells.new kinds.now)
-        before (acts_w P part.now y before)) }
+        ComesTo result (on_stack c at sp cells.new kinds.now) before (acts_w P part.now y before)) }
 {
     let n = class_named(part, at, count);
     if n.refusal != 0 {
-        return ends(n.refusal, at, sp);
+        return Step::Ends(n.refusal);
     }
     if sp <= y.floor {
-        return ends(43, at, sp);
+        return ends(Ending::TooFew);
     }
     if kinds[sp - 1] != 0 {
-        return ends(45, at, sp);
+        return ends(Ending::WrongType);
     }
     if refers(classes, ancestors, cells[sp - 1], n.row as u8) {
-        return on(at + SIZE, sp);
+        return Step::On {
+            at: at + SIZE,
+            sp: sp,
+        };
     }
     if isinst {
         cells[sp - 1] = 0;
-        return on(at + SIZE, sp);
+        return Step::On {
+            at: at + SIZE,
+            sp: sp,
+        };
     }
-    ends(35, at, sp)
+    ends(Ending::InvalidCast)
 }

@@ -3,18 +3,16 @@ ghost use Rattle.std.specs.Prelude.{◌≡◌, ◌+◌, ◌≤◌, ◌<◌, leng
 ghost use Rattle.loaded.specs.Holds.{field_cell};
 ghost use Rattle.state.specs.View.{Work};
 ghost use Rattle.state.specs.Work.{Tables, ldfld_row, stfld_row, ldsfld_row, stsfld_row, acts_w};
-ghost use Rattle.state.specs.Meets.{Placed, Meets};
-ghost use Rattle.in_frame.specs.Tries.{Own};
+ghost use Rattle.state.specs.Meets.{Placed};
+ghost use Rattle.state.specs.Steps.{Own, ComesTo};
 ghost use Rattle.fields.specs.Members.{on_member, Reaches, LendsFields};
 
 use crate::named::field_named;
 use crate::starting::first_due;
-use in_frame::Tried;
-use in_frame::stack::{ends, on};
 use loaded::columns::{FIELD, FIELD_OWNER, SLOT, TYPE};
-use state::Stay;
-use state::columns::START;
+use state::ending::{Ending, ends};
 use state::fit::{fits, kind_of, refers, wide};
+use state::{Stay, Step};
 
 // How many cells an object has, and how many objects there may be.
 const OBJECT: usize = 8;
@@ -38,42 +36,44 @@ fn ldfld(
     initialisers: &[u8; 33],
     ancestors: &[u64; 33],
     r: usize,
-) -> Tried
+) -> Step
     requires reaches { Reaches y sp at r fields.now initialisers.now }
     requires field_cell_is { field_cell fields.now r 1 ≡ 0 }
     requires placed { Placed classes.now }
-    ensures own { Own y result }
+    ensures own { Own y sp result }
     ensures meets { ((c : Work) →
         let before = on_member c at sp cells.old kinds.old marks.old classes.now heap.now
         c.statics in
-        Meets result.gone.how result.gone.at (on_member c result.gone.at result.gone.sp cells.new kinds.new marks.new
-        classes.now heap.now c.statics)
-        before (ldfld_row fields.now initialisers.now ancestors.now y before r (at + 5))) }
+        ComesTo result (on_member c at sp cells.new kinds.new marks.new
+        classes.now heap.now c.statics) before (ldfld_row fields.now initialisers.now ancestors.now y before r (at + 5))) }
 {
     if sp <= y.floor {
-        return ends(43, at, sp);
+        return ends(Ending::TooFew);
     }
     if kinds[sp - 1] != 0 {
-        return ends(45, at, sp);
+        return ends(Ending::WrongType);
     }
     let object = cells[sp - 1];
     let owner = fields[r * FIELD + FIELD_OWNER];
     if !refers(classes, ancestors, object, owner) {
-        return ends(45, at, sp);
+        return ends(Ending::WrongType);
     }
     let class = wide(owner);
     let first = first_due(marks, initialisers, class);
     if first != 0 {
-        return ends(START, first, sp);
+        return Step::Start { first: first };
     }
     if object == 0 {
-        return ends(34, at, sp);
+        return ends(Ending::NullReference);
     }
     marks[class] = 1;
     kinds[sp - 1] = kind_of(fields[r * FIELD + TYPE]);
     let place = ((object - 1) % OBJECTS) as usize;
     cells[sp - 1] = heap[place * OBJECT + wide(fields[r * FIELD + SLOT])];
-    on(at + SIZE, sp)
+    Step::On {
+        at: at + SIZE,
+        sp: sp,
+    }
 }
 
 // The value on top into the field of the row `r` of the object below it.
@@ -90,28 +90,27 @@ fn stfld(
     initialisers: &[u8; 33],
     ancestors: &[u64; 33],
     r: usize,
-) -> Tried
+) -> Step
     requires reaches { Reaches y sp at r fields.now initialisers.now }
     requires field_cell_is { field_cell fields.now r 1 ≡ 0 }
     requires placed { Placed classes.now }
-    ensures own { Own y result }
+    ensures own { Own y sp result }
     ensures meets { ((c : Work) →
         let before = on_member c at sp cells.now kinds.now marks.old classes.now heap.old
         c.statics in
-        Meets result.gone.how result.gone.at (on_member c result.gone.at result.gone.sp cells.now kinds.now marks.new
-        classes.now heap.new c.statics)
-        before (stfld_row fields.now initialisers.now ancestors.now y before r (at + 5))) }
+        ComesTo result (on_member c at sp cells.now kinds.now marks.new
+        classes.now heap.new c.statics) before (stfld_row fields.now initialisers.now ancestors.now y before r (at + 5))) }
 {
     if sp < y.floor + 2 {
-        return ends(43, at, sp);
+        return ends(Ending::TooFew);
     }
     if kinds[sp - 2] != 0 {
-        return ends(45, at, sp);
+        return ends(Ending::WrongType);
     }
     let object = cells[sp - 2];
     let owner = fields[r * FIELD + FIELD_OWNER];
     if !refers(classes, ancestors, object, owner) {
-        return ends(45, at, sp);
+        return ends(Ending::WrongType);
     }
     let value = cells[sp - 1];
     if !fits(
@@ -121,20 +120,23 @@ fn stfld(
         value,
         fields[r * FIELD + TYPE],
     ) {
-        return ends(45, at, sp);
+        return ends(Ending::WrongType);
     }
     let class = wide(owner);
     let first = first_due(marks, initialisers, class);
     if first != 0 {
-        return ends(START, first, sp);
+        return Step::Start { first: first };
     }
     if object == 0 {
-        return ends(34, at, sp);
+        return ends(Ending::NullReference);
     }
     marks[class] = 1;
     let place = ((object - 1) % OBJECTS) as usize;
     heap[place * OBJECT + wide(fields[r * FIELD + SLOT])] = value;
-    on(at + SIZE, sp - 2)
+    Step::On {
+        at: at + SIZE,
+        sp: sp - 2,
+    }
 }
 
 // The static field of the row `r`, pushed.
@@ -149,27 +151,29 @@ fn ldsfld(
     fields: &[u8; 516],
     initialisers: &[u8; 33],
     r: usize,
-) -> Tried
+) -> Step
     requires { Reaches y sp at r fields.now initialisers.now }
-    ensures own { Own y result }
+    ensures own { Own y sp result }
     ensures meets { ((c : Work) →
         let before = on_member c at sp cells.old kinds.old marks.old c.classes c.heap statics.now in
-        Meets result.gone.how result.gone.at (on_member c result.gone.at result.gone.sp cells.new kinds.new marks.new c.classes
-        c.heap statics.now)
-        before (ldsfld_row fields.now initialisers.now y before r (at + 5))) }
+        ComesTo result (on_member c at sp cells.new kinds.new marks.new c.classes
+        c.heap statics.now) before (ldsfld_row fields.now initialisers.now y before r (at + 5))) }
 {
     if y.limit <= sp {
-        return ends(44, at, sp);
+        return ends(Ending::TooMany);
     }
     let class = wide(fields[r * FIELD + FIELD_OWNER]);
     let first = first_due(marks, initialisers, class);
     if first != 0 {
-        return ends(START, first, sp);
+        return Step::Start { first: first };
     }
     marks[class] = 1;
     kinds[sp] = kind_of(fields[r * FIELD + TYPE]);
     cells[sp] = statics[wide(fields[r * FIELD + SLOT])];
-    on(at + SIZE, sp + 1)
+    Step::On {
+        at: at + SIZE,
+        sp: sp + 1,
+    }
 }
 
 // The value on top into the static field of the row `r`.
@@ -186,19 +190,18 @@ fn stsfld(
     initialisers: &[u8; 33],
     ancestors: &[u64; 33],
     r: usize,
-) -> Tried
+) -> Step
     requires reaches { Reaches y sp at r fields.now initialisers.now }
     requires placed { Placed classes.now }
-    ensures own { Own y result }
+    ensures own { Own y sp result }
     ensures meets { ((c : Work) →
         let before = on_member c at sp cells.now kinds.now marks.old classes.now c.heap
         statics.old in
-        Meets result.gone.how result.gone.at (on_member c result.gone.at result.gone.sp cells.now kinds.now marks.new
-        classes.now c.heap statics.new)
-        before (stsfld_row fields.now initialisers.now ancestors.now y before r (at + 5))) }
+        ComesTo result (on_member c at sp cells.now kinds.now marks.new
+        classes.now c.heap statics.new) before (stsfld_row fields.now initialisers.now ancestors.now y before r (at + 5))) }
 {
     if sp <= y.floor {
-        return ends(43, at, sp);
+        return ends(Ending::TooFew);
     }
     let value = cells[sp - 1];
     if !fits(
@@ -208,16 +211,19 @@ fn stsfld(
         value,
         fields[r * FIELD + TYPE],
     ) {
-        return ends(45, at, sp);
+        return ends(Ending::WrongType);
     }
     let class = wide(fields[r * FIELD + FIELD_OWNER]);
     let first = first_due(marks, initialisers, class);
     if first != 0 {
-        return ends(START, first, sp);
+        return Step::Start { first: first };
     }
     marks[class] = 1;
     statics[wide(fields[r * FIELD + SLOT])] = value;
-    on(at + SIZE, sp - 1)
+    Step::On {
+        at: at + SIZE,
+        sp: sp - 1,
+    }
 }
 
 // stfld.
@@ -235,22 +241,21 @@ pub fn object_store(
     initialisers: &[u8; 33],
     ancestors: &[u64; 33],
     count: usize,
-) -> Tried
+) -> Step
     requires reaches { Reaches y sp at 0 fields.now initialisers.now }
     requires at_range { (at < length part.now) × (count ≤ 128) }
     requires get_or_is { get_or part.now at 0 ≡ 0x7D }
     requires placed { Placed classes.now }
-    ensures own { Own y result }
+    ensures own { Own y sp result }
     ensures meets { ((P : Tables) (c : Work) → LendsFields P count fields.now initialisers.now ancestors.now →
         let before = on_member c at sp cells.old kinds.old marks.old classes.now heap.old
         c.statics in
-        Meets result.gone.how result.gone.at (on_member c result.gone.at result.gone.sp cells.new kinds.new marks.new
-        classes.now heap.new c.statics)
-        before (acts_w P part.now y before)) }
+        ComesTo result (on_member c at sp cells.new kinds.new marks.new
+        classes.now heap.new c.statics) before (acts_w P part.now y before)) }
 {
     let n = field_named(part, at, fields, count, 0);
     if n.refusal != 0 {
-        return ends(n.refusal, at, sp);
+        return Step::Ends(n.refusal);
     }
     stfld(
         y,
@@ -283,22 +288,21 @@ pub fn object_load(
     initialisers: &[u8; 33],
     ancestors: &[u64; 33],
     count: usize,
-) -> Tried
+) -> Step
     requires reaches { Reaches y sp at 0 fields.now initialisers.now }
     requires at_range { (at < length part.now) × (count ≤ 128) }
     requires get_or_is { get_or part.now at 0 ≡ 0x7B }
     requires placed { Placed classes.now }
-    ensures own { Own y result }
+    ensures own { Own y sp result }
     ensures meets { ((P : Tables) (c : Work) → LendsFields P count fields.now initialisers.now ancestors.now →
         let before = on_member c at sp cells.old kinds.old marks.old classes.now heap.old
         c.statics in
-        Meets result.gone.how result.gone.at (on_member c result.gone.at result.gone.sp cells.new kinds.new marks.new
-        classes.now heap.new c.statics)
-        before (acts_w P part.now y before)) }
+        ComesTo result (on_member c at sp cells.new kinds.new marks.new
+        classes.now heap.new c.statics) before (acts_w P part.now y before)) }
 {
     let n = field_named(part, at, fields, count, 0);
     if n.refusal != 0 {
-        return ends(n.refusal, at, sp);
+        return Step::Ends(n.refusal);
     }
     ldfld(
         y,
@@ -331,22 +335,21 @@ pub fn static_store(
     initialisers: &[u8; 33],
     ancestors: &[u64; 33],
     count: usize,
-) -> Tried
+) -> Step
     requires reaches { Reaches y sp at 0 fields.now initialisers.now }
     requires at_range { (at < length part.now) × (count ≤ 128) }
     requires get_or_is { get_or part.now at 0 ≡ 0x80 }
     requires placed { Placed classes.now }
-    ensures own { Own y result }
+    ensures own { Own y sp result }
     ensures meets { ((P : Tables) (c : Work) → LendsFields P count fields.now initialisers.now ancestors.now →
         let before = on_member c at sp cells.old kinds.old marks.old classes.now c.heap
         statics.old in
-        Meets result.gone.how result.gone.at (on_member c result.gone.at result.gone.sp cells.new kinds.new marks.new
-        classes.now c.heap statics.new)
-        before (acts_w P part.now y before)) }
+        ComesTo result (on_member c at sp cells.new kinds.new marks.new
+        classes.now c.heap statics.new) before (acts_w P part.now y before)) }
 {
     let n = field_named(part, at, fields, count, 1);
     if n.refusal != 0 {
-        return ends(n.refusal, at, sp);
+        return Step::Ends(n.refusal);
     }
     stsfld(
         y,
@@ -379,22 +382,21 @@ pub fn static_load(
     initialisers: &[u8; 33],
     ancestors: &[u64; 33],
     count: usize,
-) -> Tried
+) -> Step
     requires reaches { Reaches y sp at 0 fields.now initialisers.now }
     requires at_range { (at < length part.now) × (count ≤ 128) }
     requires get_or_is { get_or part.now at 0 ≡ 0x7E }
     requires placed { Placed classes.now }
-    ensures own { Own y result }
+    ensures own { Own y sp result }
     ensures meets { ((P : Tables) (c : Work) → LendsFields P count fields.now initialisers.now ancestors.now →
         let before = on_member c at sp cells.old kinds.old marks.old classes.now c.heap
         statics.old in
-        Meets result.gone.how result.gone.at (on_member c result.gone.at result.gone.sp cells.new kinds.new marks.new
-        classes.now c.heap statics.new)
-        before (acts_w P part.now y before)) }
+        ComesTo result (on_member c at sp cells.new kinds.new marks.new
+        classes.now c.heap statics.new) before (acts_w P part.now y before)) }
 {
     let n = field_named(part, at, fields, count, 1);
     if n.refusal != 0 {
-        return ends(n.refusal, at, sp);
+        return Step::Ends(n.refusal);
     }
     ldsfld(
         y,

@@ -1,9 +1,6 @@
 -- What an instruction is told, and what it tells.
-use Rattle.std.specs.Prelude.{◌≡◌, ℕ, ◌+◌, ◌-◌, ◌<◌, ◌≤◌, true, List, [], ◌∷◌, length, ◌≢◌, nat_lt, slice_index_or}
+use Rattle.std.specs.Prelude.{◌≡◌, ℕ, ◌+◌, ◌-◌, ◌<◌, ◌≤◌, List, [], ◌∷◌, length, ◌≢◌, nat_lt, slice_index_or}
 use Rattle.model.specs.Answer.{pick}
-use Rattle.state.specs.declared.Stay.{Stay}
-use Rattle.state.specs.Meets.{Topped}
-use Rattle.in_frame.specs.declared.Tried.{Tried}
 
 -- b is the byte at the offset, which lies inside the method's code
 pub record Reads (at : ℕ) (part : List ℕ) (b : ℕ) : Type 0 where
@@ -16,12 +13,6 @@ pub record Reads (at : ℕ) (part : List ℕ) (b : ℕ) : Type 0 where
 abbrev pub Others : List ℕ → ℕ → Type 0
 Others [] b = Unit
 Others (k ∷ ks) b = Others ks b × (b ≢ k)
-
--- a step that stays in its frame, the stack's top too
-pub record Own (y : Stay) (r : Tried) : Type 0 where
-  pub mine : r.mine ≡ true
-  pub stays : r.next ≡ 0
-  pub topped : Topped y r.gone.sp
 
 -- half of the values of one byte, of four bytes
 pub data Half : ℕ → Type 0 where

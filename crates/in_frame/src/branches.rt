@@ -4,16 +4,15 @@ ghost use Rattle.std.proofs.Math.Option.{some};
 ghost use Rattle.model.specs.Code.{Form, form_of, instructions};
 ghost use Rattle.state.specs.View.{Work, shown};
 ghost use Rattle.state.specs.Work.{Tables, test_w, when_w, branch_w, acts_w};
-ghost use Rattle.state.specs.Meets.{Stays, Topped, Few, Meets, on_stack};
+ghost use Rattle.state.specs.Meets.{Stays, Topped, Few, on_stack};
 ghost use Rattle.operators.specs.Gives.{relation_by, jump_by};
-ghost use Rattle.in_frame.specs.Tries.{Own};
+ghost use Rattle.state.specs.Steps.{Own, ComesTo};
 
-use crate::Tried;
 use crate::operands::led;
-use crate::stack::{ends, on};
 use code::operands::{byte_after, four_after, whole};
 use operators::comparisons::{Holds, TWO_NARROW, both, related, related_bits};
-use state::Stay;
+use state::ending::{Ending, ends};
+use state::{Stay, Step};
 
 // The bits of a value: of an int32 the low 32.
 fn shown(kind: u8, bits: u64) -> u64
@@ -31,26 +30,28 @@ fn test(
     kinds: &[u8; 2048],
     on_zero: usize,
     on_other: usize,
-) -> Tried
+) -> Step
     requires stays { Stays y }
     requires topped { Topped y sp }
-    ensures own { Own y result }
+    ensures own { Own y sp result }
     ensures meets { ((c : Work) →
         let before = on_stack c at sp cells.now kinds.now in
-        Meets result.gone.how result.gone.at (on_stack c result.gone.at result.gone.sp cells.now kinds.now)
-        before (test_w y before on_zero on_other)) }
+        ComesTo result (on_stack c at sp cells.now kinds.now) before (test_w y before on_zero on_other)) }
 {
     if sp <= y.floor {
-        return ends(43, at, sp);
+        return ends(Ending::TooFew);
     }
     let i = sp - 1;
     if 3 <= kinds[i] {
-        return ends(45, at, sp);
+        return ends(Ending::WrongType);
     }
     if shown(kinds[i], cells[i]) == 0 {
-        return on(on_zero, i);
+        return Step::On { at: on_zero, sp: i };
     }
-    on(on_other, i)
+    Step::On {
+        at: on_other,
+        sp: i,
+    }
 }
 
 // beq, blt and the like: two values are popped and compared.
@@ -63,18 +64,17 @@ fn when(
     relation: u8,
     target: usize,
     next: usize,
-) -> Tried
+) -> Step
     requires stays { Stays y }
     requires topped { Topped y sp }
     requires few { Few 3 kinds.now }
-    ensures own { Own y result }
+    ensures own { Own y sp result }
     ensures meets { ((c : Work) →
         let before = on_stack c at sp cells.now kinds.now in
-        Meets result.gone.how result.gone.at (on_stack c result.gone.at result.gone.sp cells.now kinds.now)
-        before (when_w y before (relation_by relation) target next)) }
+        ComesTo result (on_stack c at sp cells.now kinds.now) before (when_w y before (relation_by relation) target next)) }
 {
     if sp < y.floor + 2 {
-        return ends(43, at, sp);
+        return ends(Ending::TooFew);
     }
     let i = sp - 2;
     let j = sp - 1;
@@ -83,19 +83,19 @@ fn when(
     let pair = both(k, l);
     if pair == TWO_NARROW {
         if related_bits(relation, false, cells[i], cells[j]) {
-            return on(target, i);
+            return Step::On { at: target, sp: i };
         }
-        return on(next, i);
+        return Step::On { at: next, sp: i };
     }
     let said = related(relation, pair, cells[i], cells[j]);
     match said {
         Holds::Says(b) => {
             if b {
-                return on(target, i);
+                return Step::On { at: target, sp: i };
             }
-            on(next, i)
+            Step::On { at: next, sp: i }
         }
-        Holds::Wrong => ends(45, at, sp),
+        Holds::Wrong => ends(Ending::WrongType),
     }
 }
 
@@ -110,21 +110,20 @@ fn branch(
     how: u8,
     target: usize,
     next: usize,
-) -> Tried
+) -> Step
     requires stays { Stays y }
     requires topped { Topped y sp }
     requires few { Few 3 kinds.now }
-    ensures own { Own y result }
+    ensures own { Own y sp result }
     ensures meets { ((c : Work) →
         let before = on_stack c at sp cells.now kinds.now in
-        Meets result.gone.how result.gone.at (on_stack c result.gone.at result.gone.sp cells.now kinds.now)
-        before (branch_w len y before (jump_by how) (some target) next)) }
+        ComesTo result (on_stack c at sp cells.now kinds.now) before (branch_w len y before (jump_by how) (some target) next)) }
 {
     if len <= target {
-        return ends(42, at, sp);
+        return ends(Ending::BadOperand);
     }
     match how {
-        0 => on(target, sp),
+        0 => Step::On { at: target, sp: sp },
         1 => test(y, at, sp, cells, kinds, next, target),
         2 => test(y, at, sp, cells, kinds, target, next),
         _ => when(y, at, sp, cells, kinds, how - 3, target, next),
@@ -140,20 +139,19 @@ pub fn near(
     cells: &[u64; 2048],
     kinds: &[u8; 2048],
     how: u8,
-) -> Tried
+) -> Step
     requires stays { Stays y }
     requires topped { Topped y sp }
     requires at_range { (at < length part.now) × (length part.now ≤ 1024) }
     requires few { Few 3 kinds.now }
-    ensures own { Own y result }
+    ensures own { Own y sp result }
     ensures meets { ((P : Tables) (c : Work) → slice_index part.now at < 256
         → form_of instructions (slice_index part.now at) ≡ some (Form.near (jump_by how)) →
         let before = on_stack c at sp cells.now kinds.now in
-        Meets result.gone.how result.gone.at (on_stack c result.gone.at result.gone.sp cells.now kinds.now)
-        before (acts_w P part.now y before)) }
+        ComesTo result (on_stack c at sp cells.now kinds.now) before (acts_w P part.now y before)) }
 {
     if !whole(part, at, 2) {
-        return ends(41, at, sp);
+        return ends(Ending::Undecodable);
     }
     let next = at + 2;
     let target = led(0x80, next, byte_after(part, at) as u64);
@@ -169,20 +167,19 @@ pub fn far(
     cells: &[u64; 2048],
     kinds: &[u8; 2048],
     how: u8,
-) -> Tried
+) -> Step
     requires stays { Stays y }
     requires topped { Topped y sp }
     requires at_range { (at < length part.now) × (length part.now ≤ 1024) }
     requires few { Few 3 kinds.now }
-    ensures own { Own y result }
+    ensures own { Own y sp result }
     ensures meets { ((P : Tables) (c : Work) → slice_index part.now at < 256
         → form_of instructions (slice_index part.now at) ≡ some (Form.far (jump_by how)) →
         let before = on_stack c at sp cells.now kinds.now in
-        Meets result.gone.how result.gone.at (on_stack c result.gone.at result.gone.sp cells.now kinds.now)
-        before (acts_w P part.now y before)) }
+        ComesTo result (on_stack c at sp cells.now kinds.now) before (acts_w P part.now y before)) }
 {
     if !whole(part, at, 5) {
-        return ends(41, at, sp);
+        return ends(Ending::Undecodable);
     }
     let next = at + 5;
     let target = led(0x80000000, next, four_after(part, at) as u64);

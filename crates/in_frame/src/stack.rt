@@ -2,45 +2,14 @@
 ghost use Rattle.std.specs.Prelude.{◌≡◌, ◌<◌, ◌≤◌, true, length, slice_index};
 ghost use Rattle.state.specs.View.{Work};
 ghost use Rattle.state.specs.Work.{Tables, with_regs, moved_to, push_w, pop_w, dup_w, acts_w};
-ghost use Rattle.state.specs.Meets.{Stays, Topped, Meets, on_stack};
-ghost use Rattle.in_frame.specs.Tries.{Own};
+ghost use Rattle.state.specs.Meets.{Stays, Topped, on_stack};
+ghost use Rattle.state.specs.Steps.{Own, ComesTo};
 
-use crate::Tried;
 use crate::operands::away;
 use code::operands::{byte_after, eight_after, four_after, whole};
 use reals::stored_bits;
-use state::columns::ON;
-use state::{Gone, Stay};
-
-// The run ends, and nothing changes.
-pub fn ends(how: u8, at: usize, sp: usize) -> Tried
-    ensures { result ≡ record { mine = true; next = 0; gone = record { how = how; at = at; sp = sp } } }
-{
-    Tried {
-        mine: true,
-        next: 0,
-        gone: Gone {
-            how: how,
-            at: at,
-            sp: sp,
-        },
-    }
-}
-
-// The run goes on at an offset, its stack up to sp.
-pub fn on(at: usize, sp: usize) -> Tried
-    ensures { result ≡ record { mine = true; next = 0; gone = record { how = 0; at = at; sp = sp } } }
-{
-    Tried {
-        mine: true,
-        next: 0,
-        gone: Gone {
-            how: ON,
-            at: at,
-            sp: sp,
-        },
-    }
-}
+use state::ending::{Ending, ends};
+use state::{Stay, Step};
 
 // A value of a kind is pushed, where the method's max stack has room.
 pub fn push(
@@ -52,34 +21,39 @@ pub fn push(
     kind: u8,
     bits: u64,
     next: usize,
-) -> Tried
+) -> Step
     requires stays { Stays y }
     requires topped { Topped y sp }
-    ensures own { Own y result }
+    ensures own { Own y sp result }
     ensures meets { ((c : Work) →
         let before = on_stack c at sp cells.old kinds.old in
-        Meets result.gone.how result.gone.at (on_stack c result.gone.at result.gone.sp cells.new kinds.new)
-        before (push_w y before kind bits next)) }
+        ComesTo result (on_stack c at sp cells.new kinds.new) before (push_w y before kind bits next)) }
 {
     if y.limit <= sp {
-        return ends(44, at, sp);
+        return ends(Ending::TooMany);
     }
     kinds[sp] = kind;
     cells[sp] = bits;
-    on(next, sp + 1)
+    Step::On {
+        at: next,
+        sp: sp + 1,
+    }
 }
 
-pub fn pop(y: Stay, at: usize, sp: usize, next: usize) -> Tried
+pub fn pop(y: Stay, at: usize, sp: usize, next: usize) -> Step
     requires { Topped y sp }
-    ensures own { Own y result }
+    ensures own { Own y sp result }
     ensures meets { ((c : Work) →
         let before = with_regs c (moved_to c.regs at sp) in
-        Meets result.gone.how result.gone.at (with_regs c (moved_to c.regs result.gone.at result.gone.sp)) before (pop_w y before next)) }
+        ComesTo result before before (pop_w y before next)) }
 {
     if sp <= y.floor {
-        return ends(43, at, sp);
+        return ends(Ending::TooFew);
     }
-    on(next, sp - 1)
+    Step::On {
+        at: next,
+        sp: sp - 1,
+    }
 }
 
 pub fn dup(
@@ -89,16 +63,16 @@ pub fn dup(
     cells: &mut [u64; 2048],
     kinds: &mut [u8; 2048],
     next: usize,
-) -> Tried
+) -> Step
     requires stays { Stays y }
     requires topped { Topped y sp }
-    ensures own { Own y result }
+    ensures own { Own y sp result }
     ensures meets { ((c : Work) →
         let before = on_stack c at sp cells.old kinds.old in
-        Meets result.gone.how result.gone.at (on_stack c result.gone.at result.gone.sp cells.new kinds.new) before (dup_w y before next)) }
+        ComesTo result (on_stack c at sp cells.new kinds.new) before (dup_w y before next)) }
 {
     if sp <= y.floor {
-        return ends(43, at, sp);
+        return ends(Ending::TooFew);
     }
     let k = kinds[sp - 1];
     let v = cells[sp - 1];
@@ -113,18 +87,17 @@ pub fn ldc_i4_s(
     sp: usize,
     cells: &mut [u64; 2048],
     kinds: &mut [u8; 2048],
-) -> Tried
+) -> Step
     requires stays { Stays y }
     requires topped { Topped y sp }
     requires at_range { (at < length part.now) × (length part.now ≤ 1024) }
-    ensures own { Own y result }
+    ensures own { Own y sp result }
     ensures meets { ((P : Tables) (c : Work) → slice_index part.now at ≡ 0x1F →
         let before = on_stack c at sp cells.old kinds.old in
-        Meets result.gone.how result.gone.at (on_stack c result.gone.at result.gone.sp cells.new kinds.new)
-        before (acts_w P part.now y before)) }
+        ComesTo result (on_stack c at sp cells.new kinds.new) before (acts_w P part.now y before)) }
 {
     if !whole(part, at, 2) {
-        return ends(41, at, sp);
+        return ends(Ending::Undecodable);
     }
     let low = away(0x80, byte_after(part, at) as u64) % 0x100000000;
     push(y, at, sp, cells, kinds, 1, low, at + 2)
@@ -138,18 +111,17 @@ pub fn ldc_i4(
     sp: usize,
     cells: &mut [u64; 2048],
     kinds: &mut [u8; 2048],
-) -> Tried
+) -> Step
     requires stays { Stays y }
     requires topped { Topped y sp }
     requires at_range { (at < length part.now) × (length part.now ≤ 1024) }
-    ensures own { Own y result }
+    ensures own { Own y sp result }
     ensures meets { ((P : Tables) (c : Work) → slice_index part.now at ≡ 0x20 →
         let before = on_stack c at sp cells.old kinds.old in
-        Meets result.gone.how result.gone.at (on_stack c result.gone.at result.gone.sp cells.new kinds.new)
-        before (acts_w P part.now y before)) }
+        ComesTo result (on_stack c at sp cells.new kinds.new) before (acts_w P part.now y before)) }
 {
     if !whole(part, at, 5) {
-        return ends(41, at, sp);
+        return ends(Ending::Undecodable);
     }
     push(
         y,
@@ -171,18 +143,17 @@ pub fn ldc_i8(
     sp: usize,
     cells: &mut [u64; 2048],
     kinds: &mut [u8; 2048],
-) -> Tried
+) -> Step
     requires stays { Stays y }
     requires topped { Topped y sp }
     requires at_range { (at < length part.now) × (length part.now ≤ 1024) }
-    ensures own { Own y result }
+    ensures own { Own y sp result }
     ensures meets { ((P : Tables) (c : Work) → slice_index part.now at ≡ 0x21 →
         let before = on_stack c at sp cells.old kinds.old in
-        Meets result.gone.how result.gone.at (on_stack c result.gone.at result.gone.sp cells.new kinds.new)
-        before (acts_w P part.now y before)) }
+        ComesTo result (on_stack c at sp cells.new kinds.new) before (acts_w P part.now y before)) }
 {
     if !whole(part, at, 9) {
-        return ends(41, at, sp);
+        return ends(Ending::Undecodable);
     }
     push(y, at, sp, cells, kinds, 2, eight_after(part, at), at + 9)
 }
@@ -195,18 +166,17 @@ pub fn ldc_r8(
     sp: usize,
     cells: &mut [u64; 2048],
     kinds: &mut [u8; 2048],
-) -> Tried
+) -> Step
     requires stays { Stays y }
     requires topped { Topped y sp }
     requires at_range { (at < length part.now) × (length part.now ≤ 1024) }
-    ensures own { Own y result }
+    ensures own { Own y sp result }
     ensures meets { ((P : Tables) (c : Work) → slice_index part.now at ≡ 0x23 →
         let before = on_stack c at sp cells.old kinds.old in
-        Meets result.gone.how result.gone.at (on_stack c result.gone.at result.gone.sp cells.new kinds.new)
-        before (acts_w P part.now y before)) }
+        ComesTo result (on_stack c at sp cells.new kinds.new) before (acts_w P part.now y before)) }
 {
     if !whole(part, at, 9) {
-        return ends(41, at, sp);
+        return ends(Ending::Undecodable);
     }
     push(
         y,

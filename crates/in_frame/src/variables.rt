@@ -2,15 +2,15 @@
 ghost use Rattle.std.specs.Prelude.{◌≡◌, ◌<◌, ◌≤◌, length, slice_index};
 ghost use Rattle.state.specs.View.{Work};
 ghost use Rattle.state.specs.Work.{Tables, load_w, store_w, ldarg_w, starg_w, ldloc_w, stloc_w, acts_w};
-ghost use Rattle.state.specs.Meets.{Stays, Topped, Placed, Meets, on_stack};
-ghost use Rattle.in_frame.specs.Tries.{Own};
+ghost use Rattle.state.specs.Meets.{Stays, Topped, Placed, on_stack};
+ghost use Rattle.state.specs.Steps.{Own, ComesTo};
 
-use crate::Tried;
-use crate::stack::{ends, on, push};
+use crate::stack::push;
 use code::operands::{byte_after, whole};
-use state::Stay;
 use state::columns::LOCALS;
+use state::ending::{Ending, ends};
 use state::fit::fits;
+use state::{Stay, Step};
 
 // How many arguments and locals a frame has cells for.
 const ARGUMENTS: usize = 8;
@@ -27,20 +27,19 @@ fn load(
     variables: &[u8; 4128],
     i: usize,
     next: usize,
-) -> Tried
+) -> Step
     requires stays { Stays y }
     requires topped { Topped y sp }
     requires i_below { i < 24 }
-    ensures own { Own y result }
+    ensures own { Own y sp result }
     ensures meets { ((c : Work) →
         let before = on_stack c at sp cells.old kinds.old in
-        Meets result.gone.how result.gone.at (on_stack c result.gone.at result.gone.sp cells.new kinds.new)
-        before (load_w variables.now y before i next)) }
+        ComesTo result (on_stack c at sp cells.new kinds.new) before (load_w variables.now y before i next)) }
 {
     let m = y.mp + i;
     let k = variables[m];
     if 3 < k {
-        return ends(42, at, sp);
+        return ends(Ending::BadOperand);
     }
     let v = cells[y.fp + i];
     push(y, at, sp, cells, kinds, k, v, next)
@@ -58,31 +57,33 @@ fn store(
     classes: &[u8; 256],
     i: usize,
     next: usize,
-) -> Tried
+) -> Step
     requires stays { Stays y }
     requires topped { Topped y sp }
     requires i_below { i < 24 }
     requires placed { Placed classes.now }
-    ensures own { Own y result }
+    ensures own { Own y sp result }
     ensures meets { ((c : Work) → c.classes ≡ classes.now →
         let before = on_stack c at sp cells.old kinds.now in
-        Meets result.gone.how result.gone.at (on_stack c result.gone.at result.gone.sp cells.new kinds.now)
-        before (store_w methods.now ancestors.now y before i next)) }
+        ComesTo result (on_stack c at sp cells.new kinds.now) before (store_w methods.now ancestors.now y before i next)) }
 {
     let m = y.mp + i;
     let byte = methods[m];
     if byte == 0 {
-        return ends(42, at, sp);
+        return ends(Ending::BadOperand);
     }
     if sp <= y.floor {
-        return ends(43, at, sp);
+        return ends(Ending::TooFew);
     }
     let v = cells[sp - 1];
     if fits(classes, ancestors, kinds[sp - 1], v, byte) {
         cells[y.fp + i] = v;
-        return on(next, sp - 1);
+        return Step::On {
+            at: next,
+            sp: sp - 1,
+        };
     }
-    ends(45, at, sp)
+    ends(Ending::WrongType)
 }
 
 pub fn ldarg(
@@ -94,17 +95,16 @@ pub fn ldarg(
     variables: &[u8; 4128],
     i: usize,
     next: usize,
-) -> Tried
+) -> Step
     requires stays { Stays y }
     requires topped { Topped y sp }
-    ensures own { Own y result }
+    ensures own { Own y sp result }
     ensures meets { ((c : Work) →
         let before = on_stack c at sp cells.old kinds.old in
-        Meets result.gone.how result.gone.at (on_stack c result.gone.at result.gone.sp cells.new kinds.new)
-        before (ldarg_w variables.now y before i next)) }
+        ComesTo result (on_stack c at sp cells.new kinds.new) before (ldarg_w variables.now y before i next)) }
 {
     if ARGUMENTS <= i {
-        return ends(42, at, sp);
+        return ends(Ending::BadOperand);
     }
     load(y, at, sp, cells, kinds, variables, i, next)
 }
@@ -118,17 +118,16 @@ pub fn ldloc(
     variables: &[u8; 4128],
     i: usize,
     next: usize,
-) -> Tried
+) -> Step
     requires stays { Stays y }
     requires topped { Topped y sp }
-    ensures own { Own y result }
+    ensures own { Own y sp result }
     ensures meets { ((c : Work) →
         let before = on_stack c at sp cells.old kinds.old in
-        Meets result.gone.how result.gone.at (on_stack c result.gone.at result.gone.sp cells.new kinds.new)
-        before (ldloc_w variables.now y before i next)) }
+        ComesTo result (on_stack c at sp cells.new kinds.new) before (ldloc_w variables.now y before i next)) }
 {
     if LOCAL_COUNT <= i {
-        return ends(42, at, sp);
+        return ends(Ending::BadOperand);
     }
     load(y, at, sp, cells, kinds, variables, LOCALS + i, next)
 }
@@ -144,18 +143,17 @@ pub fn starg(
     classes: &[u8; 256],
     i: usize,
     next: usize,
-) -> Tried
+) -> Step
     requires stays { Stays y }
     requires topped { Topped y sp }
     requires placed { Placed classes.now }
-    ensures own { Own y result }
+    ensures own { Own y sp result }
     ensures meets { ((c : Work) → c.classes ≡ classes.now →
         let before = on_stack c at sp cells.old kinds.now in
-        Meets result.gone.how result.gone.at (on_stack c result.gone.at result.gone.sp cells.new kinds.now)
-        before (starg_w methods.now ancestors.now y before i next)) }
+        ComesTo result (on_stack c at sp cells.new kinds.now) before (starg_w methods.now ancestors.now y before i next)) }
 {
     if ARGUMENTS <= i {
-        return ends(42, at, sp);
+        return ends(Ending::BadOperand);
     }
     store(
         y, at, sp, cells, kinds, methods, ancestors, classes, i, next,
@@ -173,18 +171,17 @@ pub fn stloc(
     classes: &[u8; 256],
     i: usize,
     next: usize,
-) -> Tried
+) -> Step
     requires stays { Stays y }
     requires topped { Topped y sp }
     requires placed { Placed classes.now }
-    ensures own { Own y result }
+    ensures own { Own y sp result }
     ensures meets { ((c : Work) → c.classes ≡ classes.now →
         let before = on_stack c at sp cells.old kinds.now in
-        Meets result.gone.how result.gone.at (on_stack c result.gone.at result.gone.sp cells.new kinds.now)
-        before (stloc_w methods.now ancestors.now y before i next)) }
+        ComesTo result (on_stack c at sp cells.new kinds.now) before (stloc_w methods.now ancestors.now y before i next)) }
 {
     if LOCAL_COUNT <= i {
-        return ends(42, at, sp);
+        return ends(Ending::BadOperand);
     }
     store(
         y,
@@ -209,18 +206,17 @@ pub fn ldarg_s(
     cells: &mut [u64; 2048],
     kinds: &mut [u8; 2048],
     variables: &[u8; 4128],
-) -> Tried
+) -> Step
     requires stays { Stays y }
     requires topped { Topped y sp }
     requires at_range { (at < length part.now) × (length part.now ≤ 1024) }
-    ensures own { Own y result }
+    ensures own { Own y sp result }
     ensures meets { ((P : Tables) (c : Work) → P.variables ≡ variables.now → slice_index part.now at ≡ 0x0E →
         let before = on_stack c at sp cells.old kinds.old in
-        Meets result.gone.how result.gone.at (on_stack c result.gone.at result.gone.sp cells.new kinds.new)
-        before (acts_w P part.now y before)) }
+        ComesTo result (on_stack c at sp cells.new kinds.new) before (acts_w P part.now y before)) }
 {
     if !whole(part, at, 2) {
-        return ends(41, at, sp);
+        return ends(Ending::Undecodable);
     }
     ldarg(
         y,
@@ -243,18 +239,17 @@ pub fn ldloc_s(
     cells: &mut [u64; 2048],
     kinds: &mut [u8; 2048],
     variables: &[u8; 4128],
-) -> Tried
+) -> Step
     requires stays { Stays y }
     requires topped { Topped y sp }
     requires at_range { (at < length part.now) × (length part.now ≤ 1024) }
-    ensures own { Own y result }
+    ensures own { Own y sp result }
     ensures meets { ((P : Tables) (c : Work) → P.variables ≡ variables.now → slice_index part.now at ≡ 0x11 →
         let before = on_stack c at sp cells.old kinds.old in
-        Meets result.gone.how result.gone.at (on_stack c result.gone.at result.gone.sp cells.new kinds.new)
-        before (acts_w P part.now y before)) }
+        ComesTo result (on_stack c at sp cells.new kinds.new) before (acts_w P part.now y before)) }
 {
     if !whole(part, at, 2) {
-        return ends(41, at, sp);
+        return ends(Ending::Undecodable);
     }
     ldloc(
         y,
@@ -279,21 +274,20 @@ pub fn starg_s(
     methods: &[u8; 4128],
     ancestors: &[u64; 33],
     classes: &[u8; 256],
-) -> Tried
+) -> Step
     requires stays { Stays y }
     requires topped { Topped y sp }
     requires at_range { (at < length part.now) × (length part.now ≤ 1024) }
     requires placed { Placed classes.now }
-    ensures own { Own y result }
+    ensures own { Own y sp result }
     ensures meets { ((P : Tables) (c : Work)
         → P.methods ≡ methods.now → P.ancestors ≡ ancestors.now → c.classes ≡ classes.now
         → slice_index part.now at ≡ 0x10 →
         let before = on_stack c at sp cells.old kinds.now in
-        Meets result.gone.how result.gone.at (on_stack c result.gone.at result.gone.sp cells.new kinds.now)
-        before (acts_w P part.now y before)) }
+        ComesTo result (on_stack c at sp cells.new kinds.now) before (acts_w P part.now y before)) }
 {
     if !whole(part, at, 2) {
-        return ends(41, at, sp);
+        return ends(Ending::Undecodable);
     }
     starg(
         y,
@@ -320,21 +314,20 @@ pub fn stloc_s(
     methods: &[u8; 4128],
     ancestors: &[u64; 33],
     classes: &[u8; 256],
-) -> Tried
+) -> Step
     requires stays { Stays y }
     requires topped { Topped y sp }
     requires at_range { (at < length part.now) × (length part.now ≤ 1024) }
     requires placed { Placed classes.now }
-    ensures own { Own y result }
+    ensures own { Own y sp result }
     ensures meets { ((P : Tables) (c : Work)
         → P.methods ≡ methods.now → P.ancestors ≡ ancestors.now → c.classes ≡ classes.now
         → slice_index part.now at ≡ 0x13 →
         let before = on_stack c at sp cells.old kinds.now in
-        Meets result.gone.how result.gone.at (on_stack c result.gone.at result.gone.sp cells.new kinds.now)
-        before (acts_w P part.now y before)) }
+        ComesTo result (on_stack c at sp cells.new kinds.now) before (acts_w P part.now y before)) }
 {
     if !whole(part, at, 2) {
-        return ends(41, at, sp);
+        return ends(Ending::Undecodable);
     }
     stloc(
         y,

@@ -1,12 +1,12 @@
 -- What a step tells.
-use Rattle.std.specs.Prelude.{ℕ, ◌≤◌, ◌<◌, ◌≡◌, List, get_or}
-use Rattle.model.specs.Answer.{bad}
+use Rattle.std.specs.Prelude.{ℕ, ◌≤◌, ◌<◌, ◌≡◌, true, List, get_or}
 use Rattle.state.specs.declared.Stay.{Stay}
+use Rattle.state.specs.declared.Step.{Step}
 use Rattle.state.specs.View.{Work}
 use Rattle.state.specs.Work.{Tables, with_regs, acts_w}
 use Rattle.state.specs.Meets.{Few, Meets}
+use Rattle.state.specs.Steps.{how_of, first_of, next_of, well_ended}
 use Rattle.fields.specs.Members.{FieldRanges}
-use Rattle.in_frame.specs.declared.Tried.{Tried}
 use Rattle.across_frames.specs.Lent.{opcode_of}
 
 -- the tables in range
@@ -26,10 +26,9 @@ pub record Lends (P : Tables) (class_count field_count : ℕ) (methods variables
   pub same_initialisers : P.initialisers ≡ initialisers
   pub same_ancestors : P.ancestors ≡ ancestors
 
--- the step is carried out, or another function's: then its opcode is named and the arrays are as before; 7 names the last byte that is no opcode
-pub record Tells (P : Tables) (part : List ℕ) (y : Stay) (t : Tried) (before after : Work) : Type 0 where
-  pub carried : t.next ≡ 0 → Meets t.gone.how t.gone.at after before (acts_w P part y before)
-  pub opcode : (t.next ≡ 0 → ⊥) → (t.next ≡ 7 → ⊥) → get_or part before.regs.at 0 ≡ opcode_of t.next
-  pub unknown : t.next ≡ 7 → acts_w P part y before ≡ bad 41
-  pub named : (t.next ≡ 0 → ⊥) → (2 < t.next) × (t.next ≤ 7)
-  pub kept : (t.next ≡ 0 → ⊥) → after ≡ with_regs before after.regs
+-- the step is carried out, or another function's: then its opcode is named and the arrays are as before
+pub record Tells (P : Tables) (part : List ℕ) (y : Stay) (t : Step) (before after : Work) : Type 0 where
+  pub carried : next_of t ≡ 0 → Meets (how_of t) (first_of t) after before (acts_w P part y before)
+  pub ended : well_ended t ≡ true
+  pub opcode : (next_of t ≡ 0 → ⊥) → get_or part before.regs.at 0 ≡ opcode_of (next_of t)
+  pub kept : (next_of t ≡ 0 → ⊥) → after ≡ with_regs before after.regs

@@ -1,47 +1,27 @@
 // One step that stays in its frame, by its opcode; an opcode that changes the frame is named.
 #![tactic(auto)]
 
-ghost use Rattle.std.specs.Prelude.{◌≡◌, true};
+ghost use Rattle.std.specs.Prelude.{◌≡◌};
 ghost use Rattle.state.specs.View.{Work};
 ghost use Rattle.state.specs.Work.{Tables};
 ghost use Rattle.state.specs.Meets.{Stays, Topped, Few, Placed};
+ghost use Rattle.state.specs.Steps.{top_after, led};
 ghost use Rattle.in_frame.specs.Tries.{Reads};
 ghost use Rattle.fields.specs.Members.{on_member};
 ghost use Rattle.one_step.specs.Told.{RestRanges, Lends, Tells};
 
 use fields::casts::cast;
 use fields::members::{object_load, object_store, static_load, static_store};
-use in_frame::Tried;
 use in_frame::branches::{far, near};
-use in_frame::stack::{dup, ends, ldc_i4, ldc_i4_s, ldc_i8, ldc_r8, on, pop, push};
+use in_frame::stack::{dup, ldc_i4, ldc_i4_s, ldc_i8, ldc_r8, pop, push};
 use in_frame::variables::{ldarg, ldarg_s, ldloc, ldloc_s, starg_s, stloc, stloc_s};
-use operator_steps::operations::{compared, one, two};
-use state::columns::{CALL, CALLVIRT, NEWOBJ, ON, RET};
-use state::{Gone, Stay};
+use operator_steps::operations::compared;
+use operators::stacked::{binary, unary};
+use state::ending::{Ending, ends};
+use state::{Leave, Stay, Step};
 
-// The ending of a byte that is no opcode.
-pub const UNKNOWN: u8 = 41;
-
-// What names the last byte, which is no opcode either: it is told apart from the others until the stay in the frame is over.
-pub const UNKNOWN_LAST: u8 = 7;
-
-// A step that leaves the frame is another function's, and `next` names it.
-fn leaves(next: u8, at: usize, sp: usize) -> Tried
-    ensures { result ≡ record { mine = true; next = next; gone = record { how = 0; at = at; sp = sp } } }
-{
-    Tried {
-        mine: true,
-        next: next,
-        gone: Gone {
-            how: ON,
-            at: at,
-            sp: sp,
-        },
-    }
-}
-
-// Every byte leads to its arm at once. Bytes that are no opcode have two arms, the even ones and the odd ones, since numbers in a row are tested as a range;
-// the last byte is told apart from them.
+// Every byte leads to its arm at once. Bytes that are no opcode have three arms, the even ones, the odd ones and the last, since numbers in a row are tested as a
+// range.
 pub fn step(
     y: Stay,
     part: &[u8],
@@ -61,23 +41,22 @@ pub fn step(
     ancestors: &[u64; 33],
     class_count: usize,
     field_count: usize,
-) -> Tried
+) -> Step
     requires stays { Stays y }
     requires topped { Topped y sp }
     requires reads { Reads at part.now op }
     requires few { Few 3 kinds.old }
     requires ranges { Placed classes.now × RestRanges class_count field_count fields.now initialisers.now }
-    ensures topped { Topped y result.gone.sp }
+    ensures topped { Topped y (top_after result sp) }
     ensures tells { ((P : Tables) (c : Work) → Lends P class_count field_count methods.now variables.now fields.now
         initialisers.now ancestors.now →
         Tells P part.now y result
         (on_member c at sp cells.old kinds.old marks.old classes.now heap.old statics.old)
-        (on_member c result.gone.at result.gone.sp cells.new kinds.new marks.new classes.now heap.new
-        statics.new)) }
+        (led result (on_member c at sp cells.new kinds.new marks.new classes.now heap.new statics.new))) }
 {
     let next = at + 1;
     match op {
-        0x00 => on(next, sp),
+        0x00 => Step::On { at: next, sp: sp },
         0x02 => ldarg(y, at, sp, cells, kinds, variables, 0, next),
         0x03 => ldarg(y, at, sp, cells, kinds, variables, 1, next),
         0x04 => ldarg(y, at, sp, cells, kinds, variables, 2, next),
@@ -119,8 +98,8 @@ pub fn step(
         0x23 => ldc_r8(y, part, at, sp, cells, kinds),
         0x25 => dup(y, at, sp, cells, kinds, next),
         0x26 => pop(y, at, sp, next),
-        0x28 => leaves(CALL, at, sp),
-        0x2A => leaves(RET, at, sp),
+        0x28 => Step::Leaves(Leave::Call),
+        0x2A => Step::Leaves(Leave::Ret),
         0x2B => near(y, part, at, sp, cells, kinds, 0),
         0x2C => near(y, part, at, sp, cells, kinds, 2),
         0x2D => near(y, part, at, sp, cells, kinds, 1),
@@ -147,26 +126,26 @@ pub fn step(
         0x42 => far(y, part, at, sp, cells, kinds, 11),
         0x43 => far(y, part, at, sp, cells, kinds, 10),
         0x44 => far(y, part, at, sp, cells, kinds, 9),
-        0x58 => two(y, at, sp, cells, kinds, 0, next),
-        0x59 => two(y, at, sp, cells, kinds, 1, next),
-        0x5A => two(y, at, sp, cells, kinds, 2, next),
-        0x5B => two(y, at, sp, cells, kinds, 3, next),
-        0x5C => two(y, at, sp, cells, kinds, 5, next),
-        0x5D => two(y, at, sp, cells, kinds, 4, next),
-        0x5E => two(y, at, sp, cells, kinds, 6, next),
-        0x5F => two(y, at, sp, cells, kinds, 7, next),
-        0x60 => two(y, at, sp, cells, kinds, 8, next),
-        0x61 => two(y, at, sp, cells, kinds, 9, next),
-        0x62 => two(y, at, sp, cells, kinds, 13, next),
-        0x63 => two(y, at, sp, cells, kinds, 14, next),
-        0x64 => two(y, at, sp, cells, kinds, 15, next),
-        0x65 => one(y, at, sp, cells, kinds, 0, next),
-        0x66 => one(y, at, sp, cells, kinds, 1, next),
-        0x69 => one(y, at, sp, cells, kinds, 2, next),
-        0x6A => one(y, at, sp, cells, kinds, 3, next),
-        0x6C => one(y, at, sp, cells, kinds, 4, next),
-        0x6F => leaves(CALLVIRT, at, sp),
-        0x73 => leaves(NEWOBJ, at, sp),
+        0x58 => binary(y, at, sp, cells, kinds, 0, next),
+        0x59 => binary(y, at, sp, cells, kinds, 1, next),
+        0x5A => binary(y, at, sp, cells, kinds, 2, next),
+        0x5B => binary(y, at, sp, cells, kinds, 3, next),
+        0x5C => binary(y, at, sp, cells, kinds, 5, next),
+        0x5D => binary(y, at, sp, cells, kinds, 4, next),
+        0x5E => binary(y, at, sp, cells, kinds, 6, next),
+        0x5F => binary(y, at, sp, cells, kinds, 7, next),
+        0x60 => binary(y, at, sp, cells, kinds, 8, next),
+        0x61 => binary(y, at, sp, cells, kinds, 9, next),
+        0x62 => binary(y, at, sp, cells, kinds, 13, next),
+        0x63 => binary(y, at, sp, cells, kinds, 14, next),
+        0x64 => binary(y, at, sp, cells, kinds, 15, next),
+        0x65 => unary(y, at, sp, cells, kinds, 0, next),
+        0x66 => unary(y, at, sp, cells, kinds, 1, next),
+        0x69 => unary(y, at, sp, cells, kinds, 2, next),
+        0x6A => unary(y, at, sp, cells, kinds, 3, next),
+        0x6C => unary(y, at, sp, cells, kinds, 4, next),
+        0x6F => Step::Leaves(Leave::Callvirt),
+        0x73 => Step::Leaves(Leave::Newobj),
         0x74 => cast(
             false,
             y,
@@ -251,9 +230,9 @@ pub fn step(
             ancestors,
             field_count,
         ),
-        0xD6 => two(y, at, sp, cells, kinds, 10, next),
-        0xD8 => two(y, at, sp, cells, kinds, 11, next),
-        0xDA => two(y, at, sp, cells, kinds, 12, next),
+        0xD6 => binary(y, at, sp, cells, kinds, 10, next),
+        0xD8 => binary(y, at, sp, cells, kinds, 11, next),
+        0xDA => binary(y, at, sp, cells, kinds, 12, next),
         0xFE => compared(y, part, at, sp, cells, kinds),
         0x12
         | 0x22
@@ -333,7 +312,7 @@ pub fn step(
         | 0xF6
         | 0xF8
         | 0xFA
-        | 0xFC => ends(UNKNOWN, at, sp),
+        | 0xFC => ends(Ending::Undecodable),
         0x01
         | 0x0F
         | 0x27
@@ -417,7 +396,7 @@ pub fn step(
         | 0xF7
         | 0xF9
         | 0xFB
-        | 0xFD => ends(UNKNOWN, at, sp),
-        _ => leaves(UNKNOWN_LAST, at, sp),
+        | 0xFD => ends(Ending::Undecodable),
+        _ => ends(Ending::Undecodable),
     }
 }

@@ -54,7 +54,7 @@ one none a f = refl
 one (some g) a f = refl
 
 module _ (y : Stay) (c : Work) (o : Binary) (next : ℕ) where
-  pub binary_none : sp_of c < y.floor + 2 → Meets 43 c.regs.at c c (binary_w y c o next)
+  pub binary_none : {at : ℕ} → sp_of c < y.floor + 2 → Meets 43 at c c (binary_w y c o next)
   unfolding binary_w few guard ◌>>=◌
   binary_none h = stops _ refl (simp (lt-leb _ _ h))
 
@@ -67,16 +67,16 @@ module _ (y : Stay) (c : Work) (o : Binary) (next : ℕ) where
       simp (le-leb _ _ h)
       (two (binary_of o (kind_by (kind_at c (sp_of c - 2))) (kind_by (kind_at c (sp_of c - 1)))) _ _ (λ k n. ok (runs (put c next (sp_of c - 2) k n))))
 
-  pub binary_cell : y.floor + 2 ≤ sp_of c → {k n : ℕ} → ok (k, n) ≡ both_give → Meets 0 next (put c next (sp_of c - 2) k n) c (binary_w y c o next)
+  pub binary_cell : {at : ℕ} → y.floor + 2 ≤ sp_of c → {k n : ℕ} → ok (k, n) ≡ both_give → Meets 0 at (put c next (sp_of c - 2) k n) c (binary_w y c o next)
   unfolding ◌>>=◌
   binary_cell h q = goes _ (binary_says h ∙ rw (← q))
 
-  pub binary_ends : y.floor + 2 ≤ sp_of c → {e : ℕ} → bad e ≡ both_give → Meets e c.regs.at c c (binary_w y c o next)
+  pub binary_ends : {at : ℕ} → y.floor + 2 ≤ sp_of c → {e : ℕ} → bad e ≡ both_give → Meets e at c c (binary_w y c o next)
   unfolding ◌>>=◌
   binary_ends h q = stops _ (numbered q (binary_numbered o _ _ _ _)) (binary_says h ∙ rw (← q))
 
 module _ (y : Stay) (c : Work) (o : Unary) (next : ℕ) where
-  pub unary_none : sp_of c < y.floor + 1 → Meets 43 c.regs.at c c (unary_w y c o next)
+  pub unary_none : {at : ℕ} → sp_of c < y.floor + 1 → Meets 43 at c c (unary_w y c o next)
   unfolding unary_w few guard ◌>>=◌
   unary_none h = stops _ refl (simp (lt-leb _ _ h))
 
@@ -87,10 +87,10 @@ module _ (y : Stay) (c : Work) (o : Unary) (next : ℕ) where
   unfolding unary_w unary_gives few guard ◌>>=◌
   unary_says h = simp (le-leb _ _ h) (one (unary_of o (kind_by (kind_at c (sp_of c - 1)))) _ (λ k n. ok (runs (put c next (sp_of c - 1) k n))))
 
-  pub unary_cell : y.floor + 1 ≤ sp_of c → {k n : ℕ} → ok (k, n) ≡ one_gives → Meets 0 next (put c next (sp_of c - 1) k n) c (unary_w y c o next)
+  pub unary_cell : {at : ℕ} → y.floor + 1 ≤ sp_of c → {k n : ℕ} → ok (k, n) ≡ one_gives → Meets 0 at (put c next (sp_of c - 1) k n) c (unary_w y c o next)
   unfolding ◌>>=◌
   unary_cell h q = goes _ (unary_says h ∙ rw (← q))
 
-  pub unary_ends : y.floor + 1 ≤ sp_of c → {e : ℕ} → bad e ≡ one_gives → Meets e c.regs.at c c (unary_w y c o next)
+  pub unary_ends : {at : ℕ} → y.floor + 1 ≤ sp_of c → {e : ℕ} → bad e ≡ one_gives → Meets e at c c (unary_w y c o next)
   unfolding ◌>>=◌
   unary_ends h q = stops _ (numbered q (unary_numbered o _ _)) (unary_says h ∙ rw (← q))

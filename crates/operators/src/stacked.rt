@@ -2,14 +2,17 @@
 ghost use Rattle.std.specs.Prelude.{◌+◌};
 ghost use Rattle.state.specs.View.{Work};
 ghost use Rattle.state.specs.Work.{binary_w, unary_w};
-ghost use Rattle.state.specs.Meets.{Stays, Topped, Few, on_stack, Meets};
+ghost use Rattle.state.specs.Meets.{Stays, Topped, Few, on_stack};
+ghost use Rattle.state.specs.Steps.{Own, ComesTo};
 ghost use Rattle.operators.specs.Gives.{binary_by, unary_by};
 
 use crate::operators::{Given, converted, operated};
-use state::{Gone, Stay};
+use state::ending::{Ending, ends};
+use state::{Stay, Step};
 
 // Two operands: numbers 0 add, 1 sub, 2 mul, 3 div; 4 rem, 5 div.un, 6 rem.un, 7 and, 8 or, 9 xor, 10 add.ovf, 11 mul.ovf, 12 sub.ovf; 13 shl, 14 shr,
 // 15 shr.un; from 16 on a comparison.
+#[inline(always)]
 pub fn binary(
     y: Stay,
     at: usize,
@@ -18,19 +21,15 @@ pub fn binary(
     kinds: &mut [u8; 2048],
     op: u8,
     next: usize,
-) -> Gone
+) -> Step
     requires stays { Stays y }
     requires topped { Topped y sp }
     requires few { Few 3 kinds.old }
-    ensures topped { Topped y result.sp }
-    ensures meets { ((c : Work) → let before = on_stack c at sp cells.old kinds.old in Meets result.how result.at (on_stack c result.at result.sp cells.new kinds.new) before (binary_w y before (binary_by op) next)) }
+    ensures own { Own y sp result }
+    ensures meets { ((c : Work) → let before = on_stack c at sp cells.old kinds.old in ComesTo result (on_stack c at sp cells.new kinds.new) before (binary_w y before (binary_by op) next)) }
 {
     if sp < y.floor + 2 {
-        return Gone {
-            how: 43,
-            at: at,
-            sp: sp,
-        };
+        return ends(Ending::TooFew);
     }
     let i = sp - 2;
     let j = sp - 1;
@@ -39,21 +38,17 @@ pub fn binary(
         Given::Cell(k, n) => {
             kinds[i] = k;
             cells[i] = n;
-            Gone {
-                how: 0,
+            Step::On {
                 at: next,
-                sp: sp - 2 + 1,
+                sp: i + 1,
             }
         }
-        Given::Ends(e) => Gone {
-            how: e,
-            at: at,
-            sp: sp,
-        },
+        Given::Ends(e) => Step::Ends(e),
     }
 }
 
 // One operand: 0 neg, 1 not, 2 conv.i4, 3 conv.i8, 4 conv.r8.
+#[inline(always)]
 pub fn unary(
     y: Stay,
     at: usize,
@@ -62,19 +57,15 @@ pub fn unary(
     kinds: &mut [u8; 2048],
     op: u8,
     next: usize,
-) -> Gone
+) -> Step
     requires stays { Stays y }
     requires topped { Topped y sp }
     requires few { Few 3 kinds.old }
-    ensures topped { Topped y result.sp }
-    ensures meets { ((c : Work) → let before = on_stack c at sp cells.old kinds.old in Meets result.how result.at (on_stack c result.at result.sp cells.new kinds.new) before (unary_w y before (unary_by op) next)) }
+    ensures own { Own y sp result }
+    ensures meets { ((c : Work) → let before = on_stack c at sp cells.old kinds.old in ComesTo result (on_stack c at sp cells.new kinds.new) before (unary_w y before (unary_by op) next)) }
 {
     if sp < y.floor + 1 {
-        return Gone {
-            how: 43,
-            at: at,
-            sp: sp,
-        };
+        return ends(Ending::TooFew);
     }
     let i = sp - 1;
     let o = converted(op, kinds[i], cells[i]);
@@ -82,16 +73,11 @@ pub fn unary(
         Given::Cell(k, n) => {
             kinds[i] = k;
             cells[i] = n;
-            Gone {
-                how: 0,
+            Step::On {
                 at: next,
-                sp: sp - 1 + 1,
+                sp: i + 1,
             }
         }
-        Given::Ends(e) => Gone {
-            how: e,
-            at: at,
-            sp: sp,
-        },
+        Given::Ends(e) => Step::Ends(e),
     }
 }

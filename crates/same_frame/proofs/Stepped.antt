@@ -1,30 +1,33 @@
 -- What a step of a stay asks for, and what it comes to for the run.
 use Prim.Native.Nat.{ℕ, ◌+◌, ◌-◌, ◌≤◌, ◌<◌}
 use mathlib.Core.Path.{◌≡◌, refl, sym, ap, ◌∙◌, subst}
-use mathlib.Core.Bool.{Bool, true, false}
+use mathlib.Core.Bool.{Bool, true, false, not, ◌||◌}
 use mathlib.Core.List.{List}
 use native.Mathlib.Omega.{arith}
 use lib.ListN.{length, get_or}
 use lib.Dec.{eqb}
-use borrow.Author.Tests.{ne_eqb, lt-ltb, le-ltb, eqb-true, eqb-false}
+use borrow.Author.Tests.{ne_eqb}
 use Rattle.model.specs.Answer.{bad, ok, ◌>>=◌, pick}
 use Rattle.loaded.specs.Holds.{part_length}
+use Rattle.state.specs.declared.Leave.{Leave}
+use Rattle.state.specs.declared.Leave.TheVariants.{Ret, Call, Callvirt, Newobj}
 use Rattle.state.specs.declared.Stay.{Stay}
-use Rattle.state.specs.declared.Gone.{Gone}
+use Rattle.state.specs.declared.Step.{Step}
+use Rattle.state.specs.declared.Step.TheVariants.{On, Start, Ends, Leaves}
 use Rattle.state.specs.View.{Regs, Work}
 use Rattle.state.specs.Order.{Ranges}
 use Rattle.state.specs.Work.{Tables, runs, waits, with_regs, moved_to, stay_of, code_of, acts_w, settle, step_w, EndedW, halted_w}
 use Rattle.state.specs.Meets.{Stays, Topped, Few, Placed, answer}
-use Rattle.in_frame.specs.declared.Tried.{Tried}
+use Rattle.state.specs.Steps.{leave_number, led, ends_run}
 use Rattle.in_frame.specs.Tries.{Reads}
 use Rattle.fields.specs.Members.{FieldRanges}
 use Rattle.crossing.specs.Crossing.{crossing}
 use Rattle.one_step.specs.Told.{RestRanges, Lends, Tells}
+use Rattle.one_step.proofs.Promised.{leaves_to}
 use Rattle.between_steps.specs.Running.{Begins}
 use Rattle.between_steps.proofs.Order.{few, stays, topped, kindly, placed, part_few, part_long, first_few}
 use Rattle.between_steps.proofs.Going.{Going, used, past_end, steps_so, halts, ends_late, again}
-use Rattle.same_frame.specs.Stays.{Place, Came, gone_by, next_by, how_by, first_by, stopped_by}
-use Rattle.same_frame.specs.declared.Stayed.{Stayed}
+use Rattle.same_frame.specs.Stays.{Place, Came, stopped_by}
 
 -- ---- What is left of a budget
 
@@ -56,28 +59,28 @@ rest_ranges r l =
 
 -- ---- What a step came to
 
-went_on : (t : Tried) (at sp : ℕ) {g : Gone} → g ≡ gone_by t at sp → g.how ≡ 0 → (t.next ≡ 0) × (g ≡ t.gone)
-unfolding gone_by pick
-went_on t at sp {g} q h = go (eqb t.next 0) refl
+never_two : (l : Leave) → leave_number l ≡ 2 → ⊥
+never_two Ret e = absurd (omega arith)
+never_two Call e = absurd (omega arith)
+never_two Callvirt e = absurd (omega arith)
+never_two Newobj e = absurd (omega arith)
+
+-- a number that ends the run does so
+refuses : (first : ℕ) (c : Work) (e : ℕ) → ends_run e ≡ true → answer e first c ≡ bad e
+unfolding answer pick
+refuses first c e h = go (eqb e 0) refl (eqb e 2) refl h
   where
-    go : (a : Bool) → eqb t.next 0 ≡ a → (t.next ≡ 0) × (g ≡ t.gone)
-    go true e = (eqb-true _ _ e, q ∙ rw e refl)
-    go false e =
-        let w : g ≡ record { how = t.next; at = at; sp = sp } = q ∙ rw e refl in
-        absurd (eqb-false _ _ e (sym (ap (λ (x : Gone). x.how) w) ∙ h))
+    go : (z : Bool) → eqb e 0 ≡ z → (t : Bool) → eqb e 2 ≡ t → not (z || t) ≡ true → answer e first c ≡ bad e
+    go false p false q k = simp (p, q)
+    go true p t q k = cc
+    go false p true q k = cc
 
-stays_not : (t : Tried) (at sp : ℕ) → t.next ≡ 0 → ((gone_by t at sp).how ≡ 0 → ⊥) → t.gone.how ≡ 0 → ⊥
-unfolding gone_by pick
-stays_not t at sp z d h = d (rw z h)
+not_zero : (e : ℕ) → ends_run e ≡ true → e ≡ 0 → ⊥
+not_zero e h z = let k : ends_run 0 ≡ true = subst (λ (n : ℕ). ends_run n ≡ true) z h in cc
 
-below : {n : ℕ} → n ≤ 7 → (n ≡ 7 → ⊥) → n < 7
-below h d = omega arith
-
-late_enough : {n : ℕ} → 30 < n → 7 ≤ n
-late_enough h = omega arith
-
-late_not : {n : ℕ} → 30 < n → n ≡ 7 → ⊥
-late_not h e = absurd (omega arith)
+-- the work where the step began, as the step left the arrays
+as_before : (c after : Work) (t : Step) → led t after ≡ with_regs c (led t after).regs → with_regs after c.regs ≡ c
+as_before c after t e = ap (λ (w : Work). with_regs w c.regs) e
 
 -- ---- What is asked
 
@@ -102,7 +105,7 @@ module _ {code : List ℕ} {P : Tables} {y : Stay} {part : List ℕ} {most : ℕ
     (p : Place code P y part c.regs) where
   -- where the run ends before a step
   stops_here : (how left : ℕ) → n ≡ most - left → 30 < how → halted_w how n c ≡ whole
-      → Came code P y part most whole (record { next = 0; how = how; first = 0; at = c.regs.at; sp = c.regs.sp; left = left }) c
+      → Came code P y part most whole (stopped_by (Ends how) c.regs.at c.regs.sp left) c
   stops_here how left counted late e =
       record {
         going = subst (λ (k : ℕ). Going code P most whole k c) counted g;
@@ -113,11 +116,11 @@ module _ {code : List ℕ} {P : Tables} {y : Stay} {part : List ℕ} {most : ℕ
 
   -- the code ends before the offset
   pub past : (left : ℕ) → n ≡ most - left → n < most → length part ≤ c.regs.at
-      → Came code P y part most whole (record { next = 0; how = 46; first = 0; at = c.regs.at; sp = c.regs.sp; left = left }) c
+      → Came code P y part most whole (stopped_by (Ends 46) c.regs.at c.regs.sp left) c
   past left counted more h = stops_here 46 left counted (omega arith) (past_end g more (omega (arith, part_size g.begins p)))
 
   -- the budget is used
-  pub used_up : n ≡ most → Came code P y part most whole (record { next = 0; how = 38; first = 0; at = c.regs.at; sp = c.regs.sp; left = 0 }) c
+  pub used_up : n ≡ most → Came code P y part most whole (stopped_by (Ends 38) c.regs.at c.regs.sp 0) c
   used_up e = stops_here 38 0 (omega arith) (omega arith) (used g (omega arith))
 
   module _ (more : n < most) (inside : c.regs.at < length part) where
@@ -130,127 +133,78 @@ module _ {code : List ℕ} {P : Tables} {y : Stay} {part : List ℕ} {most : ℕ
     step_is : step_w P code c ≡ (acts_w P part y c >>= λ w. settle P c w)
     step_is = steps_so g more within ∙ rw acts_so
 
-    module _ (t : Tried) (after : Work) (tells : Tells P part y t c after) where
-      goes_on : t.next ≡ 0 → t.gone.how ≡ 0 → Going code P most whole (n + 1) after
-      unfolding answer pick ◌>>=◌ settle
-      goes_on z h =
-          let a : acts_w P part y c ≡ ok (runs after) = sym (tells.carried z).says ∙ rw h in
-          again g more within (step_is ∙ rw a)
+    -- the stay goes on where the step led
+    goes_on : (o s : ℕ) (after : Work) → Tells P part y (On o s) c after → Going code P most whole (n + 1) after
+    unfolding answer pick ◌>>=◌ settle
+    goes_on o s after tells =
+        let a : acts_w P part y c ≡ ok (runs after) = sym (tells.carried refl).says in
+        again g more within (step_is ∙ rw a)
 
-      -- the stay goes on where the step led
-      pub goes_to : after ≡ with_regs after (moved_to after.regs t.gone.at t.gone.sp) → (g : Gone) → g ≡ gone_by t c.regs.at c.regs.sp → g.how ≡ 0
-          → Going code P most whole (n + 1) (with_regs after (moved_to after.regs g.at g.sp))
-      goes_to e g q h =
-          let m = went_on t c.regs.at c.regs.sp q h in
-          subst (λ (x : Gone). Going code P most whole (n + 1) (with_regs after (moved_to after.regs x.at x.sp))) (sym m.1)
-          (subst (λ (w : Work). Going code P most whole (n + 1) w) e (goes_on m.0 (sym (ap (λ (x : Gone). x.how) m.1) ∙ h)))
+    pub goes_to : {t : Step} (after : Work) → Tells P part y t c (led t after) → {o s : ℕ} → t ≡ On o s
+        → Going code P most whole (n + 1) (with_regs after (moved_to after.regs o s))
+    goes_to after tells {o} {s} e = goes_on o s _ (subst (λ (t : Step). Tells P part y t c (led t after)) e tells)
 
-      ended : t.next ≡ 0 → (t.gone.how ≡ 0 → ⊥) → (t.gone.how ≡ 2 → ⊥) → step_w P code c ≡ bad t.gone.how
+    module _ (left : ℕ) (some : 0 < left) (counted : n ≡ most - left) where
+      still : Going code P most whole (most - left) c
+      still = subst (λ (k : ℕ). Going code P most whole k c) counted g
+
+      -- the step is another function's
+      leaving : (l : Leave) (after : Work) → Tells P part y (Leaves l) c after → Came code P y part most whole (stopped_by (Leaves l) c.regs.at c.regs.sp left) c
+      unfolding crossing pick
+      leaving l after tells =
+          let z = leaves_to l in
+          let u = never_two l in
+          let s : crossing P part y c (leave_number l) 0 ≡ (acts_w P part y c >>= λ w. settle P c w) = simp (ne_eqb _ _ u) in
+          record {
+            going = still;
+            stops = λ q. absurd (z q);
+            late = λ q. absurd (z q);
+            leaves = λ _. record {
+              more = some;
+              crosses = record { inside = inside; first_few = λ q. absurd (u q); opcode = λ _. tells.opcode z };
+              step = step_is ∙ sym s;
+            };
+          }
+
+      -- an initialiser comes before it
+      waiting : (first : ℕ) (after : Work) → Tells P part y (Start first) c after → Came code P y part most whole (stopped_by (Start first) c.regs.at c.regs.sp left) c
+      unfolding answer crossing pick ◌>>=◌ settle
+      waiting first after tells =
+          let w : acts_w P part y c ≡ ok (waits first) = sym (tells.carried refl).says in
+          record {
+            going = still;
+            stops = λ q. absurd (omega arith);
+            late = λ q. absurd (omega arith);
+            leaves = λ _. record {
+              more = some;
+              crosses = record { inside = inside; first_few = λ _. first_few g.begins within (acts_so ∙ w); opcode = λ q. absurd (q refl) };
+              step = step_is ∙ rw w;
+            };
+          }
+
+      -- it ends the run
+      ending : (e : ℕ) (after : Work) → Tells P part y (Ends e) c after → Came code P y part most whole (stopped_by (Ends e) c.regs.at c.regs.sp left) c
       unfolding answer pick ◌>>=◌
-      ended z h k =
-          let a : acts_w P part y c ≡ bad t.gone.how = sym (tells.carried z).says ∙ simp (ne_eqb _ _ h, ne_eqb _ _ k) in
-          step_is ∙ rw a
+      ending e after tells =
+          let a : acts_w P part y c ≡ bad e = sym (tells.carried refl).says ∙ refuses _ _ e tells.ended in
+          let s : step_w P code c ≡ bad e = step_is ∙ rw a in
+          record {
+            going = still;
+            stops = λ _. subst (λ (m : ℕ). halted_w e m c ≡ whole) counted (halts g more within s);
+            late = λ _. ends_late g more within s;
+            leaves = λ q. absurd (q refl);
+          }
 
-      waited : t.next ≡ 0 → t.gone.how ≡ 2 → acts_w P part y c ≡ ok (waits t.gone.at)
-      unfolding answer pick
-      waited z h = sym (tells.carried z).says ∙ rw h
+      from_there : (t : Step) → (after : Work) → Tells P part y t c (led t after) → ((o s : ℕ) → t ≡ On o s → ⊥)
+          → (with_regs after c.regs ≡ c) × Came code P y part most whole (stopped_by t c.regs.at c.regs.sp left) c
+      from_there (On o s) after tells n = absurd (n o s refl)
+      from_there (Start first) after tells n = (as_before c after (Start first) ((tells.carried refl).kept (λ z. absurd (omega arith))), waiting first _ tells)
+      from_there (Ends e) after tells n = (as_before c after (Ends e) ((tells.carried refl).kept (not_zero e tells.ended)), ending e _ tells)
+      from_there (Leaves l) after tells n = (as_before c after (Leaves l) (tells.kept (leaves_to l)), leaving l _ tells)
 
-      unstarted : (t.next ≡ 0 → ⊥) → t.next ≡ 2 → ⊥
-      unstarted z q = absurd (omega (arith, (tells.named z).0, q))
-
-      module _ (left : ℕ) (some : 0 < left) (counted : n ≡ most - left) where
-        abbrev at_end : ℕ → ℕ → ℕ → Stayed
-        at_end next how first = record { next = next; how = how; first = first; at = c.regs.at; sp = c.regs.sp; left = left }
-
-        still : Going code P most whole (most - left) c
-        still = subst (λ (k : ℕ). Going code P most whole k c) counted g
-
-        -- the step is another function's
-        leaving : (t.next ≡ 0 → ⊥) → (t.next ≡ 7 → ⊥) → Came code P y part most whole (at_end t.next 0 0) c
-        unfolding crossing pick
-        leaving z u =
-            let s : crossing P part y c t.next 0 ≡ (acts_w P part y c >>= λ w. settle P c w) = simp (ne_eqb _ _ (unstarted z)) in
-            record {
-              going = still;
-              stops = λ q. absurd (z q);
-              late = λ q. absurd (z q);
-              leaves = λ _. record {
-                more = some;
-                crosses = record { inside = inside; first_few = λ q. absurd (unstarted z q); opcode = λ _. tells.opcode z u };
-                step = step_is ∙ sym s;
-              };
-            }
-
-        -- an initialiser comes before it
-        waiting : t.next ≡ 0 → t.gone.how ≡ 2 → Came code P y part most whole (at_end 2 0 t.gone.at) c
-        unfolding crossing pick ◌>>=◌ settle
-        waiting z h =
-            record {
-              going = still;
-              stops = λ q. absurd (omega arith);
-              late = λ q. absurd (omega arith);
-              leaves = λ _. record {
-                more = some;
-                crosses = record { inside = inside; first_few = λ _. first_few g.begins within (acts_so ∙ waited z h); opcode = λ q. absurd (q refl) };
-                step = step_is ∙ rw (waited z h);
-              };
-            }
-
-        -- it ends the run
-        ending : t.next ≡ 0 → (t.gone.how ≡ 0 → ⊥) → (t.gone.how ≡ 2 → ⊥) → Came code P y part most whole (at_end 0 t.gone.how 0) c
-        ending z h k =
-            record {
-              going = still;
-              stops = λ _. subst (λ (m : ℕ). halted_w t.gone.how m c ≡ whole) counted (halts g more within (ended z h k));
-              late = λ _. ends_late g more within (ended z h k);
-              leaves = λ q. absurd (q refl);
-            }
-
-        -- it is the last byte, which is no opcode
-        unknown : t.next ≡ 7 → Came code P y part most whole (at_end 0 41 0) c
-        unfolding ◌>>=◌
-        unknown z =
-            let s : step_w P code c ≡ bad 41 = step_is ∙ rw (tells.unknown z) in
-            record {
-              going = still;
-              stops = λ _. subst (λ (m : ℕ). halted_w 41 m c ≡ whole) counted (halts g more within s);
-              late = λ _. omega arith;
-              leaves = λ q. absurd (q refl);
-            }
-
-        abbrev gone : Gone
-        gone = gone_by t c.regs.at c.regs.sp
-
-        came : (gone.how ≡ 0 → ⊥) → Came code P y part most whole (stopped_by gone c.regs.at c.regs.sp left) c
-        unfolding gone_by next_by how_by first_by pick
-        came d = go (eqb t.next 0) refl (eqb t.next 7) refl (eqb t.gone.how 2) refl
-          where
-            go : (a : Bool) → eqb t.next 0 ≡ a → (u : Bool) → eqb t.next 7 ≡ u → (b : Bool) → eqb t.gone.how 2 ≡ b
-                → Came code P y part most whole (stopped_by gone c.regs.at c.regs.sp left) c
-            go false e true h b f =
-                let s : t.next ≡ 7 = eqb-true _ _ h in
-                rw (e, s) (unknown s)
-            go false e false h b f =
-                let z = eqb-false _ _ e in
-                rw (e, ne_eqb _ _ (unstarted z), lt-ltb _ _ (below (tells.named z).1 (eqb-false _ _ h))) (leaving z (eqb-false _ _ h))
-            go true e u h true f = rw (e, f) (waiting (eqb-true _ _ e) (eqb-true _ _ f))
-            go true e u h false f =
-                let z = eqb-true _ _ e in
-                let late = (ending z (stays_not t c.regs.at c.regs.sp z d) (eqb-false _ _ f)).late refl in
-                rw (e, f, le-ltb _ _ (late_enough late), ne_eqb _ _ (late_not late)) (ending z (stays_not t c.regs.at c.regs.sp z d) (eqb-false _ _ f))
-
-        as_before : (gone.how ≡ 0 → ⊥) → after ≡ with_regs c after.regs
-        as_before d = go (eqb t.next 0) refl
-          where
-            go : (a : Bool) → eqb t.next 0 ≡ a → after ≡ with_regs c after.regs
-            go false e = tells.kept (eqb-false _ _ e)
-            go true e = (tells.carried (eqb-true _ _ e)).kept (stays_not t c.regs.at c.regs.sp (eqb-true _ _ e) d)
-
-        -- the stay ends where the step began
-        pub ends_here : (g : Gone) → g ≡ gone → (g.how ≡ 0 → ⊥)
-            → Came code P y part most whole (stopped_by g c.regs.at c.regs.sp left) (with_regs after c.regs)
-        ends_here g q d =
-            let n : gone.how ≡ 0 → ⊥ = subst (λ (x : Gone). x.how ≡ 0 → ⊥) q d in
-            subst (λ (x : Gone). Came code P y part most whole (stopped_by x c.regs.at c.regs.sp left) (with_regs after c.regs)) (sym q)
-            (subst (λ (w : Work). Came code P y part most whole (stopped_by gone c.regs.at c.regs.sp left) w)
-            (sym (ap (λ (w : Work). with_regs w c.regs) (as_before n))) (came n))
+      -- the stay ends where the step began
+      pub ends_here : (t : Step) → (after : Work) → Tells P part y t c (led t after) → ((o s : ℕ) → t ≡ On o s → ⊥)
+          → Came code P y part most whole (stopped_by t c.regs.at c.regs.sp left) (with_regs after c.regs)
+      ends_here t after tells n =
+          let both = from_there t after tells n in
+          subst (λ (w : Work). Came code P y part most whole (stopped_by t c.regs.at c.regs.sp left) w) (sym both.0) both.1

@@ -1,11 +1,11 @@
 -- The steps of one stay in a frame: what they begin with, and what they come to.
-use Rattle.std.specs.Prelude.{ℕ, ◌-◌, ◌<◌, ◌≡◌, List, eqb, ltb}
-use Rattle.model.specs.Answer.{pick}
+use Rattle.std.specs.Prelude.{ℕ, ◌-◌, ◌<◌, ◌≡◌, List}
 use Rattle.state.specs.declared.Stay.{Stay}
-use Rattle.state.specs.declared.Gone.{Gone}
+use Rattle.state.specs.declared.Step.{Step}
+use Rattle.state.specs.declared.Step.TheVariants.{On, Start, Ends, Leaves}
 use Rattle.state.specs.View.{Regs, Work}
 use Rattle.state.specs.Work.{Tables, stay_of, code_of, step_w, EndedW, halted_w}
-use Rattle.in_frame.specs.declared.Tried.{Tried}
+use Rattle.state.specs.Steps.{first_of, leave_number}
 use Rattle.fields.specs.Members.{on_member}
 use Rattle.crossing.specs.Crossing.{crossing, Crosses}
 use Rattle.one_step.specs.Told.{Lends}
@@ -41,19 +41,18 @@ pub record Came (code : List ℕ) (P : Tables) (y : Stay) (part : List ℕ) (bud
   pub late : r.next ≡ 0 → 30 < r.how
   pub leaves : (r.next ≡ 0 → ⊥) → Leaving code P y part r after
 
--- what a step came to as one number
-unfoldable pub gone_by : Tried → ℕ → ℕ → Gone
-gone_by t at sp = pick (eqb t.next 0) t.gone (record { how = t.next; at = at; sp = sp })
+-- a step that doesn't go on in its frame: one that an initialiser comes before, another function's, or one that ends the run
+abbrev pub next_by : Step → ℕ
+next_by (On at sp) = 0
+next_by (Start first) = 2
+next_by (Ends e) = 0
+next_by (Leaves l) = leave_number l
 
--- a step that doesn't go on in its frame: one that an initialiser comes before, another function's, the last byte, which is no opcode, or one that ends the run
-unfoldable pub next_by : Gone → ℕ
-next_by g = pick (eqb g.how 2) 2 (pick (ltb g.how 7) g.how 0)
+abbrev pub how_by : Step → ℕ
+how_by (On at sp) = 0
+how_by (Start first) = 0
+how_by (Ends e) = e
+how_by (Leaves l) = 0
 
-unfoldable pub how_by : Gone → ℕ
-how_by g = pick (eqb g.how 2) 0 (pick (ltb g.how 7) 0 (pick (eqb g.how 7) 41 g.how))
-
-unfoldable pub first_by : Gone → ℕ
-first_by g = pick (eqb g.how 2) g.at 0
-
-abbrev pub stopped_by : Gone → ℕ → ℕ → ℕ → Stayed
-stopped_by g at sp left = record { next = next_by g; how = how_by g; first = first_by g; at = at; sp = sp; left = left }
+abbrev pub stopped_by : Step → ℕ → ℕ → ℕ → Stayed
+stopped_by step at sp left = record { next = next_by step; how = how_by step; first = first_of step; at = at; sp = sp; left = left }

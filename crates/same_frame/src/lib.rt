@@ -7,17 +7,12 @@ ghost use Rattle.state.specs.Work.{Tables, EndedW};
 ghost use Rattle.fields.specs.Members.{on_member};
 ghost use Rattle.one_step.specs.Told.{Lends};
 ghost use Rattle.between_steps.proofs.Going.{Going};
-ghost use Rattle.same_frame.specs.Stays.{Place, Sits, Came, gone_by, stopped_by};
+ghost use Rattle.same_frame.specs.Stays.{Place, Sits, Came, stopped_by};
 
-use in_frame::Tried;
-use one_step::{UNKNOWN, UNKNOWN_LAST, step};
-use state::columns::{ON, START};
-use state::{Gone, Stay};
-
-// The endings of a used budget and of code that ends before the offset.
-const USED: u8 = 38;
-
-const PAST: u8 = 46;
+use one_step::step;
+use state::columns::START;
+use state::ending::{Ending, ends};
+use state::{Stay, Step};
 
 // How a stay ended: `next` is the step that changes the frame, and `first` the initialiser's row where one comes first; where `next` is 0, the run ends with `how`.
 // `left` is what is left of the budget.
@@ -31,58 +26,20 @@ pub struct Stayed {
     pub left: u64,
 }
 
-// What a step came to as one number, so that the loop asks one question: a step that is another function's is named there.
-fn merged(t: Tried, at: usize, sp: usize) -> Gone
-    ensures { result ≡ gone_by t at sp }
+// A stay ends with a step that doesn't go on in its frame.
+fn stopped(step: Step, at: usize, sp: usize, left: u64) -> Stayed
+    ensures { result ≡ stopped_by step at sp left }
 {
-    if t.next != 0 {
-        return Gone {
-            how: t.next,
-            at: at,
-            sp: sp,
-        };
-    }
-    t.gone
-}
-
-// A step that doesn't go on in its frame.
-fn stopped(g: Gone, at: usize, sp: usize, left: u64) -> Stayed
-    ensures { result ≡ stopped_by g at sp left }
-{
-    if g.how == START {
-        return Stayed {
-            next: START,
-            how: 0,
-            first: g.at,
-            at: at,
-            sp: sp,
-            left: left,
-        };
-    }
-    if g.how < UNKNOWN_LAST {
-        return Stayed {
-            next: g.how,
-            how: 0,
-            first: 0,
-            at: at,
-            sp: sp,
-            left: left,
-        };
-    }
-    if g.how == UNKNOWN_LAST {
-        return Stayed {
-            next: 0,
-            how: UNKNOWN,
-            first: 0,
-            at: at,
-            sp: sp,
-            left: left,
-        };
-    }
+    let (next, how, first) = match step {
+        Step::On { at: _, sp: _ } => (0, 0, 0),
+        Step::Start { first } => (START, 0, first),
+        Step::Ends(ending) => (0, ending, 0),
+        Step::Leaves(leave) => (leave as u8, 0, 0),
+    };
     Stayed {
-        next: 0,
-        how: g.how,
-        first: 0,
+        next: next,
+        how: how,
+        first: first,
         at: at,
         sp: sp,
         left: left,
@@ -90,6 +47,7 @@ fn stopped(g: Gone, at: usize, sp: usize, left: u64) -> Stayed
 }
 
 // At most `budget` steps from an offset and a stack's top on, as long as the frame stays.
+#[inline(always)]
 pub fn same_frame(
     y: Stay,
     part: &[u8],
@@ -126,16 +84,9 @@ pub fn same_frame(
     let mut left = budget;
     while left != 0 {
         if part.len() <= o {
-            return Stayed {
-                next: 0,
-                how: PAST,
-                first: 0,
-                at: o,
-                sp: s,
-                left: left,
-            };
+            return stopped(ends(Ending::PastEnd), o, s, left);
         }
-        let t = step(
+        match step(
             y,
             part,
             part[o],
@@ -154,21 +105,14 @@ pub fn same_frame(
             ancestors,
             class_count,
             field_count,
-        );
-        let g = merged(t, o, s);
-        if g.how != ON {
-            return stopped(g, o, s, left);
+        ) {
+            Step::On { at, sp } => {
+                o = at;
+                s = sp;
+            }
+            other => return stopped(other, o, s, left),
         }
-        o = g.at;
-        s = g.sp;
         left -= 1;
     }
-    Stayed {
-        next: 0,
-        how: USED,
-        first: 0,
-        at: o,
-        sp: s,
-        left: 0,
-    }
+    stopped(ends(Ending::UsedBudget), o, s, 0)
 }

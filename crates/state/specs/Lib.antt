@@ -4,3 +4,4 @@ pub mod Work
 pub mod Order
 pub mod Layout
 pub mod Meets
+pub mod Steps

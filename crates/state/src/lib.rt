@@ -2,7 +2,7 @@
 #![tactic(auto)]
 
 pub mod columns; // what stands where in a frame
-mod empty; // a state in which nothing is
+pub mod ending; // why a run ends
 pub mod fit; // whether a value fits a declared type
 pub mod tokens; // the rows that tokens name
 
@@ -35,12 +35,26 @@ pub struct Stay {
     pub limit: usize,
 }
 
-// How a step went that stays in its frame: 0 goes on, any other number says why not; the offset of the next instruction, and the index one past the stack's top.
-#[derive(Clone, Copy)]
-pub struct Gone {
-    pub how: u8,
-    pub at: usize,
-    pub sp: usize,
+// The instructions that change the frame, by the numbers of `columns`.
+#[derive(Clone, Copy, PartialEq, Eq)]
+pub enum Leave {
+    Ret = 3,
+    Call = 4,
+    Callvirt = 5,
+    Newobj = 6,
+}
+
+// How a step went. Where it doesn't go on, nothing has changed.
+#[derive(Clone, Copy, PartialEq, Eq)]
+pub enum Step {
+    // it goes on in its frame: the offset of the next instruction, and the index one past the stack's top
+    On { at: usize, sp: usize },
+    // a class has to start first: the row of its initialiser
+    Start { first: usize },
+    // the run ends with a number of 01
+    Ends(u8),
+    // the instruction changes the frame, and is another function's
+    Leaves(Leave),
 }
 
 // How a step went that may leave its frame: the registers after it, `row` the running method's and `made` the number of objects.

@@ -4,241 +4,11 @@ use Rattle.model.specs.Answer.{pick}
 use Rattle.across_frames.specs.Lent.{opcode_of}
 use Rattle.one_step.proofs.Forms.{nop_form, ldargs, ldlocs, stlocs, null_form, ints, dup_form, pop_form, nears, fars, numbers, bits, overflows, unaries}
 use Rattle.one_step.proofs.Unknown.{no_even, no_odd, no_other}
-use Rattle.one_step.proofs.Promised.{reached, away, unknown, unknown_last}
+use Rattle.one_step.proofs.Promised.{reached, away, unknown}
 use Rattle.one_step.proofs.Moves.{onward, argument, local, stored, numbered, number_stored, null_constant, constant, with_operand, doubled, popped, branched}
 use Rattle.one_step.proofs.Rest.{two_operands, one_operand, comparing, casting, of_object, of_class}
+use Rattle.state.specs.declared.Leave.TheVariants.{Ret, Call, Callvirt, Newobj}
 use Rattle.one_step.proofs.step.Goals as goal
-
-pub ldarg-requires : goal.ldarg-requires
-ldarg-requires c = record { stays = c.requires.stays; topped = c.requires.topped }
-
-pub ldarg-requires-in-3 : goal.ldarg-requires-in-3
-ldarg-requires-in-3 c = record { stays = c.requires.stays; topped = c.requires.topped }
-
-pub ldarg-requires-in-4 : goal.ldarg-requires-in-4
-ldarg-requires-in-4 c = record { stays = c.requires.stays; topped = c.requires.topped }
-
-pub ldarg-requires-in-5 : goal.ldarg-requires-in-5
-ldarg-requires-in-5 c = record { stays = c.requires.stays; topped = c.requires.topped }
-
-pub ldloc-requires : goal.ldloc-requires
-ldloc-requires c = record { stays = c.requires.stays; topped = c.requires.topped }
-
-pub ldloc-requires-in-7 : goal.ldloc-requires-in-7
-ldloc-requires-in-7 c = record { stays = c.requires.stays; topped = c.requires.topped }
-
-pub ldloc-requires-in-8 : goal.ldloc-requires-in-8
-ldloc-requires-in-8 c = record { stays = c.requires.stays; topped = c.requires.topped }
-
-pub ldloc-requires-in-9 : goal.ldloc-requires-in-9
-ldloc-requires-in-9 c = record { stays = c.requires.stays; topped = c.requires.topped }
-
-pub stloc-requires : goal.stloc-requires
-stloc-requires c = record { stays = c.requires.stays; topped = c.requires.topped; placed = c.requires.ranges.0 }
-
-pub stloc-requires-in-11 : goal.stloc-requires-in-11
-stloc-requires-in-11 c = record { stays = c.requires.stays; topped = c.requires.topped; placed = c.requires.ranges.0 }
-
-pub stloc-requires-in-12 : goal.stloc-requires-in-12
-stloc-requires-in-12 c = record { stays = c.requires.stays; topped = c.requires.topped; placed = c.requires.ranges.0 }
-
-pub stloc-requires-in-13 : goal.stloc-requires-in-13
-stloc-requires-in-13 c = record { stays = c.requires.stays; topped = c.requires.topped; placed = c.requires.ranges.0 }
-
-pub ldarg_s-requires : goal.ldarg_s-requires
-ldarg_s-requires c = record { stays = c.requires.stays; topped = c.requires.topped; at_range = (c.requires.reads.inside, c.requires.reads.most) }
-
-pub starg_s-requires : goal.starg_s-requires
-starg_s-requires c = record { stays = c.requires.stays; topped = c.requires.topped; at_range = (c.requires.reads.inside, c.requires.reads.most); placed = c.requires.ranges.0 }
-
-pub ldloc_s-requires : goal.ldloc_s-requires
-ldloc_s-requires c = record { stays = c.requires.stays; topped = c.requires.topped; at_range = (c.requires.reads.inside, c.requires.reads.most) }
-
-pub stloc_s-requires : goal.stloc_s-requires
-stloc_s-requires c = record { stays = c.requires.stays; topped = c.requires.topped; at_range = (c.requires.reads.inside, c.requires.reads.most); placed = c.requires.ranges.0 }
-
-pub push-requires : goal.push-requires
-push-requires c = record { stays = c.requires.stays; topped = c.requires.topped }
-
-pub push-requires-in-21 : goal.push-requires-in-21
-push-requires-in-21 c = record { stays = c.requires.stays; topped = c.requires.topped }
-
-pub push-requires-in-22 : goal.push-requires-in-22
-push-requires-in-22 c = record { stays = c.requires.stays; topped = c.requires.topped }
-
-pub push-requires-in-23 : goal.push-requires-in-23
-push-requires-in-23 c = record { stays = c.requires.stays; topped = c.requires.topped }
-
-pub push-requires-in-24 : goal.push-requires-in-24
-push-requires-in-24 c = record { stays = c.requires.stays; topped = c.requires.topped }
-
-pub push-requires-in-25 : goal.push-requires-in-25
-push-requires-in-25 c = record { stays = c.requires.stays; topped = c.requires.topped }
-
-pub push-requires-in-26 : goal.push-requires-in-26
-push-requires-in-26 c = record { stays = c.requires.stays; topped = c.requires.topped }
-
-pub push-requires-in-27 : goal.push-requires-in-27
-push-requires-in-27 c = record { stays = c.requires.stays; topped = c.requires.topped }
-
-pub push-requires-in-28 : goal.push-requires-in-28
-push-requires-in-28 c = record { stays = c.requires.stays; topped = c.requires.topped }
-
-pub push-requires-in-29 : goal.push-requires-in-29
-push-requires-in-29 c = record { stays = c.requires.stays; topped = c.requires.topped }
-
-pub push-requires-in-30 : goal.push-requires-in-30
-push-requires-in-30 c = record { stays = c.requires.stays; topped = c.requires.topped }
-
-pub ldc_i4_s-requires : goal.ldc_i4_s-requires
-ldc_i4_s-requires c = record { stays = c.requires.stays; topped = c.requires.topped; at_range = (c.requires.reads.inside, c.requires.reads.most) }
-
-pub ldc_i4-requires : goal.ldc_i4-requires
-ldc_i4-requires c = record { stays = c.requires.stays; topped = c.requires.topped; at_range = (c.requires.reads.inside, c.requires.reads.most) }
-
-pub ldc_i8-requires : goal.ldc_i8-requires
-ldc_i8-requires c = record { stays = c.requires.stays; topped = c.requires.topped; at_range = (c.requires.reads.inside, c.requires.reads.most) }
-
-pub ldc_r8-requires : goal.ldc_r8-requires
-ldc_r8-requires c = record { stays = c.requires.stays; topped = c.requires.topped; at_range = (c.requires.reads.inside, c.requires.reads.most) }
-
-pub dup-requires : goal.dup-requires
-dup-requires c = record { stays = c.requires.stays; topped = c.requires.topped }
-
-pub pop-requires : goal.pop-requires
-pop-requires c = c.requires.topped
-
-pub near-requires : goal.near-requires
-near-requires c = record { stays = c.requires.stays; topped = c.requires.topped; at_range = (c.requires.reads.inside, c.requires.reads.most); few = c.requires.few }
-
-pub near-requires-in-44 : goal.near-requires-in-44
-near-requires-in-44 c = record { stays = c.requires.stays; topped = c.requires.topped; at_range = (c.requires.reads.inside, c.requires.reads.most); few = c.requires.few }
-
-pub near-requires-in-45 : goal.near-requires-in-45
-near-requires-in-45 c = record { stays = c.requires.stays; topped = c.requires.topped; at_range = (c.requires.reads.inside, c.requires.reads.most); few = c.requires.few }
-
-pub near-requires-in-46 : goal.near-requires-in-46
-near-requires-in-46 c = record { stays = c.requires.stays; topped = c.requires.topped; at_range = (c.requires.reads.inside, c.requires.reads.most); few = c.requires.few }
-
-pub near-requires-in-47 : goal.near-requires-in-47
-near-requires-in-47 c = record { stays = c.requires.stays; topped = c.requires.topped; at_range = (c.requires.reads.inside, c.requires.reads.most); few = c.requires.few }
-
-pub near-requires-in-48 : goal.near-requires-in-48
-near-requires-in-48 c = record { stays = c.requires.stays; topped = c.requires.topped; at_range = (c.requires.reads.inside, c.requires.reads.most); few = c.requires.few }
-
-pub near-requires-in-49 : goal.near-requires-in-49
-near-requires-in-49 c = record { stays = c.requires.stays; topped = c.requires.topped; at_range = (c.requires.reads.inside, c.requires.reads.most); few = c.requires.few }
-
-pub near-requires-in-50 : goal.near-requires-in-50
-near-requires-in-50 c = record { stays = c.requires.stays; topped = c.requires.topped; at_range = (c.requires.reads.inside, c.requires.reads.most); few = c.requires.few }
-
-pub near-requires-in-51 : goal.near-requires-in-51
-near-requires-in-51 c = record { stays = c.requires.stays; topped = c.requires.topped; at_range = (c.requires.reads.inside, c.requires.reads.most); few = c.requires.few }
-
-pub near-requires-in-52 : goal.near-requires-in-52
-near-requires-in-52 c = record { stays = c.requires.stays; topped = c.requires.topped; at_range = (c.requires.reads.inside, c.requires.reads.most); few = c.requires.few }
-
-pub near-requires-in-53 : goal.near-requires-in-53
-near-requires-in-53 c = record { stays = c.requires.stays; topped = c.requires.topped; at_range = (c.requires.reads.inside, c.requires.reads.most); few = c.requires.few }
-
-pub near-requires-in-54 : goal.near-requires-in-54
-near-requires-in-54 c = record { stays = c.requires.stays; topped = c.requires.topped; at_range = (c.requires.reads.inside, c.requires.reads.most); few = c.requires.few }
-
-pub near-requires-in-55 : goal.near-requires-in-55
-near-requires-in-55 c = record { stays = c.requires.stays; topped = c.requires.topped; at_range = (c.requires.reads.inside, c.requires.reads.most); few = c.requires.few }
-
-pub far-requires : goal.far-requires
-far-requires c = record { stays = c.requires.stays; topped = c.requires.topped; at_range = (c.requires.reads.inside, c.requires.reads.most); few = c.requires.few }
-
-pub far-requires-in-57 : goal.far-requires-in-57
-far-requires-in-57 c = record { stays = c.requires.stays; topped = c.requires.topped; at_range = (c.requires.reads.inside, c.requires.reads.most); few = c.requires.few }
-
-pub far-requires-in-58 : goal.far-requires-in-58
-far-requires-in-58 c = record { stays = c.requires.stays; topped = c.requires.topped; at_range = (c.requires.reads.inside, c.requires.reads.most); few = c.requires.few }
-
-pub far-requires-in-59 : goal.far-requires-in-59
-far-requires-in-59 c = record { stays = c.requires.stays; topped = c.requires.topped; at_range = (c.requires.reads.inside, c.requires.reads.most); few = c.requires.few }
-
-pub far-requires-in-60 : goal.far-requires-in-60
-far-requires-in-60 c = record { stays = c.requires.stays; topped = c.requires.topped; at_range = (c.requires.reads.inside, c.requires.reads.most); few = c.requires.few }
-
-pub far-requires-in-61 : goal.far-requires-in-61
-far-requires-in-61 c = record { stays = c.requires.stays; topped = c.requires.topped; at_range = (c.requires.reads.inside, c.requires.reads.most); few = c.requires.few }
-
-pub far-requires-in-62 : goal.far-requires-in-62
-far-requires-in-62 c = record { stays = c.requires.stays; topped = c.requires.topped; at_range = (c.requires.reads.inside, c.requires.reads.most); few = c.requires.few }
-
-pub far-requires-in-63 : goal.far-requires-in-63
-far-requires-in-63 c = record { stays = c.requires.stays; topped = c.requires.topped; at_range = (c.requires.reads.inside, c.requires.reads.most); few = c.requires.few }
-
-pub far-requires-in-64 : goal.far-requires-in-64
-far-requires-in-64 c = record { stays = c.requires.stays; topped = c.requires.topped; at_range = (c.requires.reads.inside, c.requires.reads.most); few = c.requires.few }
-
-pub far-requires-in-65 : goal.far-requires-in-65
-far-requires-in-65 c = record { stays = c.requires.stays; topped = c.requires.topped; at_range = (c.requires.reads.inside, c.requires.reads.most); few = c.requires.few }
-
-pub far-requires-in-66 : goal.far-requires-in-66
-far-requires-in-66 c = record { stays = c.requires.stays; topped = c.requires.topped; at_range = (c.requires.reads.inside, c.requires.reads.most); few = c.requires.few }
-
-pub far-requires-in-67 : goal.far-requires-in-67
-far-requires-in-67 c = record { stays = c.requires.stays; topped = c.requires.topped; at_range = (c.requires.reads.inside, c.requires.reads.most); few = c.requires.few }
-
-pub far-requires-in-68 : goal.far-requires-in-68
-far-requires-in-68 c = record { stays = c.requires.stays; topped = c.requires.topped; at_range = (c.requires.reads.inside, c.requires.reads.most); few = c.requires.few }
-
-pub two-requires : goal.two-requires
-two-requires c = (c.requires.stays, (c.requires.topped, c.requires.few))
-
-pub two-requires-in-89 : goal.two-requires-in-89
-two-requires-in-89 c = (c.requires.stays, (c.requires.topped, c.requires.few))
-
-pub two-requires-in-90 : goal.two-requires-in-90
-two-requires-in-90 c = (c.requires.stays, (c.requires.topped, c.requires.few))
-
-pub two-requires-in-91 : goal.two-requires-in-91
-two-requires-in-91 c = (c.requires.stays, (c.requires.topped, c.requires.few))
-
-pub two-requires-in-92 : goal.two-requires-in-92
-two-requires-in-92 c = (c.requires.stays, (c.requires.topped, c.requires.few))
-
-pub two-requires-in-93 : goal.two-requires-in-93
-two-requires-in-93 c = (c.requires.stays, (c.requires.topped, c.requires.few))
-
-pub two-requires-in-94 : goal.two-requires-in-94
-two-requires-in-94 c = (c.requires.stays, (c.requires.topped, c.requires.few))
-
-pub two-requires-in-95 : goal.two-requires-in-95
-two-requires-in-95 c = (c.requires.stays, (c.requires.topped, c.requires.few))
-
-pub two-requires-in-96 : goal.two-requires-in-96
-two-requires-in-96 c = (c.requires.stays, (c.requires.topped, c.requires.few))
-
-pub two-requires-in-97 : goal.two-requires-in-97
-two-requires-in-97 c = (c.requires.stays, (c.requires.topped, c.requires.few))
-
-pub two-requires-in-98 : goal.two-requires-in-98
-two-requires-in-98 c = (c.requires.stays, (c.requires.topped, c.requires.few))
-
-pub two-requires-in-99 : goal.two-requires-in-99
-two-requires-in-99 c = (c.requires.stays, (c.requires.topped, c.requires.few))
-
-pub two-requires-in-100 : goal.two-requires-in-100
-two-requires-in-100 c = (c.requires.stays, (c.requires.topped, c.requires.few))
-
-pub one-requires : goal.one-requires
-one-requires c = (c.requires.stays, (c.requires.topped, c.requires.few))
-
-pub one-requires-in-102 : goal.one-requires-in-102
-one-requires-in-102 c = (c.requires.stays, (c.requires.topped, c.requires.few))
-
-pub one-requires-in-105 : goal.one-requires-in-105
-one-requires-in-105 c = (c.requires.stays, (c.requires.topped, c.requires.few))
-
-pub one-requires-in-106 : goal.one-requires-in-106
-one-requires-in-106 c = (c.requires.stays, (c.requires.topped, c.requires.few))
-
-pub one-requires-in-108 : goal.one-requires-in-108
-one-requires-in-108 c = (c.requires.stays, (c.requires.topped, c.requires.few))
 
 pub cast-requires : goal.cast-requires
 unfolding pick
@@ -248,32 +18,8 @@ pub cast-requires-in-117 : goal.cast-requires-in-117
 unfolding pick
 cast-requires-in-117 c = record { stays = c.requires.stays; topped = c.requires.topped; at_range = (c.requires.reads.inside, omega (arith, c.requires.reads.inside, c.requires.reads.most), c.requires.ranges.1.classes_few); get_or_is = c.requires.reads.byte ∙ c.in-117.is; placed = c.requires.ranges.0 }
 
-pub object_load-requires : goal.object_load-requires
-object_load-requires c = record { reaches = reached c.requires.stays c.requires.topped c.requires.reads c.requires.ranges.1; at_range = (c.requires.reads.inside, c.requires.ranges.1.fields_few); get_or_is = c.requires.reads.byte ∙ c.in-123.is; placed = c.requires.ranges.0 }
-
-pub object_store-requires : goal.object_store-requires
-object_store-requires c = record { reaches = reached c.requires.stays c.requires.topped c.requires.reads c.requires.ranges.1; at_range = (c.requires.reads.inside, c.requires.ranges.1.fields_few); get_or_is = c.requires.reads.byte ∙ c.in-125.is; placed = c.requires.ranges.0 }
-
-pub static_load-requires : goal.static_load-requires
-static_load-requires c = record { reaches = reached c.requires.stays c.requires.topped c.requires.reads c.requires.ranges.1; at_range = (c.requires.reads.inside, c.requires.ranges.1.fields_few); get_or_is = c.requires.reads.byte ∙ c.in-126.is; placed = c.requires.ranges.0 }
-
-pub static_store-requires : goal.static_store-requires
-static_store-requires c = record { reaches = reached c.requires.stays c.requires.topped c.requires.reads c.requires.ranges.1; at_range = (c.requires.reads.inside, c.requires.ranges.1.fields_few); get_or_is = c.requires.reads.byte ∙ c.in-128.is; placed = c.requires.ranges.0 }
-
-pub two-requires-in-214 : goal.two-requires-in-214
-two-requires-in-214 c = (c.requires.stays, (c.requires.topped, c.requires.few))
-
-pub two-requires-in-216 : goal.two-requires-in-216
-two-requires-in-216 c = (c.requires.stays, (c.requires.topped, c.requires.few))
-
-pub two-requires-in-218 : goal.two-requires-in-218
-two-requires-in-218 c = (c.requires.stays, (c.requires.topped, c.requires.few))
-
-pub compared-requires : goal.compared-requires
-compared-requires c = record { stays = c.requires.stays; topped = c.requires.topped; few = c.requires.few; at_range = (c.requires.reads.inside, c.requires.reads.most) }
-
 pub returns-in-0 : goal.returns-in-0
-returns-in-0 c = let both = onward c.on.result c.requires.reads c.in-0.is nop_form c.requires.topped c.on.ensures in record { topped = both.0; tells = both.1 }
+returns-in-0 c = let both = onward c.requires.reads c.in-0.is nop_form c.requires.topped in record { topped = both.0; tells = both.1 }
 
 pub returns-in-2 : goal.returns-in-2
 returns-in-2 c = let both = argument c.ldarg.result c.requires.reads c.in-2.is 0 ldargs.0 (c.ldarg.ensures.own, c.ldarg.ensures.meets) in record { topped = both.0; tells = both.1 }
@@ -376,11 +122,11 @@ returns-in-38 c = let both = popped c.pop.result c.requires.reads c.in-38.is pop
 
 pub returns-in-40 : goal.returns-in-40
 unfolding opcode_of pick
-returns-in-40 c = let both = away c.requires.reads 4 c.requires.topped c.in-40.is c.leaves.ensures (omega arith) (omega arith) in record { topped = both.0; tells = both.1 }
+returns-in-40 c = let both = away c.requires.reads c.requires.topped Call c.in-40.is in record { topped = both.0; tells = both.1 }
 
 pub returns-in-42 : goal.returns-in-42
 unfolding opcode_of pick
-returns-in-42 c = let both = away c.requires.reads 3 c.requires.topped c.in-42.is c.leaves-in-42.ensures (omega arith) (omega arith) in record { topped = both.0; tells = both.1 }
+returns-in-42 c = let both = away c.requires.reads c.requires.topped Ret c.in-42.is in record { topped = both.0; tells = both.1 }
 
 pub returns-in-43 : goal.returns-in-43
 returns-in-43 c = let both = branched c.near.result c.requires.reads c.in-43.is nears.0 (c.near.ensures.own, c.near.ensures.meets) in record { topped = both.0; tells = both.1 }
@@ -461,66 +207,66 @@ pub returns-in-68 : goal.returns-in-68
 returns-in-68 c = let both = branched c.far-in-68.result c.requires.reads c.in-68.is fars.12 (c.far-in-68.ensures.own, c.far-in-68.ensures.meets) in record { topped = both.0; tells = both.1 }
 
 pub returns-in-88 : goal.returns-in-88
-returns-in-88 c = let both = two_operands c.two.result c.requires.reads c.in-88.is 0 numbers.0 c.two.ensures in record { topped = both.0; tells = both.1 }
+returns-in-88 c = let both = two_operands c.binary.result c.requires.reads c.in-88.is 0 numbers.0 (c.binary.ensures.own, c.binary.ensures.meets) in record { topped = both.0; tells = both.1 }
 
 pub returns-in-89 : goal.returns-in-89
-returns-in-89 c = let both = two_operands c.two-in-89.result c.requires.reads c.in-89.is 1 numbers.1 c.two-in-89.ensures in record { topped = both.0; tells = both.1 }
+returns-in-89 c = let both = two_operands c.binary-in-89.result c.requires.reads c.in-89.is 1 numbers.1 (c.binary-in-89.ensures.own, c.binary-in-89.ensures.meets) in record { topped = both.0; tells = both.1 }
 
 pub returns-in-90 : goal.returns-in-90
-returns-in-90 c = let both = two_operands c.two-in-90.result c.requires.reads c.in-90.is 2 numbers.2 c.two-in-90.ensures in record { topped = both.0; tells = both.1 }
+returns-in-90 c = let both = two_operands c.binary-in-90.result c.requires.reads c.in-90.is 2 numbers.2 (c.binary-in-90.ensures.own, c.binary-in-90.ensures.meets) in record { topped = both.0; tells = both.1 }
 
 pub returns-in-91 : goal.returns-in-91
-returns-in-91 c = let both = two_operands c.two-in-91.result c.requires.reads c.in-91.is 3 numbers.3 c.two-in-91.ensures in record { topped = both.0; tells = both.1 }
+returns-in-91 c = let both = two_operands c.binary-in-91.result c.requires.reads c.in-91.is 3 numbers.3 (c.binary-in-91.ensures.own, c.binary-in-91.ensures.meets) in record { topped = both.0; tells = both.1 }
 
 pub returns-in-92 : goal.returns-in-92
-returns-in-92 c = let both = two_operands c.two-in-92.result c.requires.reads c.in-92.is 5 numbers.4 c.two-in-92.ensures in record { topped = both.0; tells = both.1 }
+returns-in-92 c = let both = two_operands c.binary-in-92.result c.requires.reads c.in-92.is 5 numbers.4 (c.binary-in-92.ensures.own, c.binary-in-92.ensures.meets) in record { topped = both.0; tells = both.1 }
 
 pub returns-in-93 : goal.returns-in-93
-returns-in-93 c = let both = two_operands c.two-in-93.result c.requires.reads c.in-93.is 4 numbers.5 c.two-in-93.ensures in record { topped = both.0; tells = both.1 }
+returns-in-93 c = let both = two_operands c.binary-in-93.result c.requires.reads c.in-93.is 4 numbers.5 (c.binary-in-93.ensures.own, c.binary-in-93.ensures.meets) in record { topped = both.0; tells = both.1 }
 
 pub returns-in-94 : goal.returns-in-94
-returns-in-94 c = let both = two_operands c.two-in-94.result c.requires.reads c.in-94.is 6 numbers.6 c.two-in-94.ensures in record { topped = both.0; tells = both.1 }
+returns-in-94 c = let both = two_operands c.binary-in-94.result c.requires.reads c.in-94.is 6 numbers.6 (c.binary-in-94.ensures.own, c.binary-in-94.ensures.meets) in record { topped = both.0; tells = both.1 }
 
 pub returns-in-95 : goal.returns-in-95
-returns-in-95 c = let both = two_operands c.two-in-95.result c.requires.reads c.in-95.is 7 bits.0 c.two-in-95.ensures in record { topped = both.0; tells = both.1 }
+returns-in-95 c = let both = two_operands c.binary-in-95.result c.requires.reads c.in-95.is 7 bits.0 (c.binary-in-95.ensures.own, c.binary-in-95.ensures.meets) in record { topped = both.0; tells = both.1 }
 
 pub returns-in-96 : goal.returns-in-96
-returns-in-96 c = let both = two_operands c.two-in-96.result c.requires.reads c.in-96.is 8 bits.1 c.two-in-96.ensures in record { topped = both.0; tells = both.1 }
+returns-in-96 c = let both = two_operands c.binary-in-96.result c.requires.reads c.in-96.is 8 bits.1 (c.binary-in-96.ensures.own, c.binary-in-96.ensures.meets) in record { topped = both.0; tells = both.1 }
 
 pub returns-in-97 : goal.returns-in-97
-returns-in-97 c = let both = two_operands c.two-in-97.result c.requires.reads c.in-97.is 9 bits.2 c.two-in-97.ensures in record { topped = both.0; tells = both.1 }
+returns-in-97 c = let both = two_operands c.binary-in-97.result c.requires.reads c.in-97.is 9 bits.2 (c.binary-in-97.ensures.own, c.binary-in-97.ensures.meets) in record { topped = both.0; tells = both.1 }
 
 pub returns-in-98 : goal.returns-in-98
-returns-in-98 c = let both = two_operands c.two-in-98.result c.requires.reads c.in-98.is 13 bits.3 c.two-in-98.ensures in record { topped = both.0; tells = both.1 }
+returns-in-98 c = let both = two_operands c.binary-in-98.result c.requires.reads c.in-98.is 13 bits.3 (c.binary-in-98.ensures.own, c.binary-in-98.ensures.meets) in record { topped = both.0; tells = both.1 }
 
 pub returns-in-99 : goal.returns-in-99
-returns-in-99 c = let both = two_operands c.two-in-99.result c.requires.reads c.in-99.is 14 bits.4 c.two-in-99.ensures in record { topped = both.0; tells = both.1 }
+returns-in-99 c = let both = two_operands c.binary-in-99.result c.requires.reads c.in-99.is 14 bits.4 (c.binary-in-99.ensures.own, c.binary-in-99.ensures.meets) in record { topped = both.0; tells = both.1 }
 
 pub returns-in-100 : goal.returns-in-100
-returns-in-100 c = let both = two_operands c.two-in-100.result c.requires.reads c.in-100.is 15 bits.5 c.two-in-100.ensures in record { topped = both.0; tells = both.1 }
+returns-in-100 c = let both = two_operands c.binary-in-100.result c.requires.reads c.in-100.is 15 bits.5 (c.binary-in-100.ensures.own, c.binary-in-100.ensures.meets) in record { topped = both.0; tells = both.1 }
 
 pub returns-in-101 : goal.returns-in-101
-returns-in-101 c = let both = one_operand c.one.result c.requires.reads c.in-101.is 0 unaries.0 c.one.ensures in record { topped = both.0; tells = both.1 }
+returns-in-101 c = let both = one_operand c.unary.result c.requires.reads c.in-101.is 0 unaries.0 (c.unary.ensures.own, c.unary.ensures.meets) in record { topped = both.0; tells = both.1 }
 
 pub returns-in-102 : goal.returns-in-102
-returns-in-102 c = let both = one_operand c.one-in-102.result c.requires.reads c.in-102.is 1 unaries.1 c.one-in-102.ensures in record { topped = both.0; tells = both.1 }
+returns-in-102 c = let both = one_operand c.unary-in-102.result c.requires.reads c.in-102.is 1 unaries.1 (c.unary-in-102.ensures.own, c.unary-in-102.ensures.meets) in record { topped = both.0; tells = both.1 }
 
 pub returns-in-105 : goal.returns-in-105
-returns-in-105 c = let both = one_operand c.one-in-105.result c.requires.reads c.in-105.is 2 unaries.2 c.one-in-105.ensures in record { topped = both.0; tells = both.1 }
+returns-in-105 c = let both = one_operand c.unary-in-105.result c.requires.reads c.in-105.is 2 unaries.2 (c.unary-in-105.ensures.own, c.unary-in-105.ensures.meets) in record { topped = both.0; tells = both.1 }
 
 pub returns-in-106 : goal.returns-in-106
-returns-in-106 c = let both = one_operand c.one-in-106.result c.requires.reads c.in-106.is 3 unaries.3 c.one-in-106.ensures in record { topped = both.0; tells = both.1 }
+returns-in-106 c = let both = one_operand c.unary-in-106.result c.requires.reads c.in-106.is 3 unaries.3 (c.unary-in-106.ensures.own, c.unary-in-106.ensures.meets) in record { topped = both.0; tells = both.1 }
 
 pub returns-in-108 : goal.returns-in-108
-returns-in-108 c = let both = one_operand c.one-in-108.result c.requires.reads c.in-108.is 4 unaries.4 c.one-in-108.ensures in record { topped = both.0; tells = both.1 }
+returns-in-108 c = let both = one_operand c.unary-in-108.result c.requires.reads c.in-108.is 4 unaries.4 (c.unary-in-108.ensures.own, c.unary-in-108.ensures.meets) in record { topped = both.0; tells = both.1 }
 
 pub returns-in-111 : goal.returns-in-111
 unfolding opcode_of pick
-returns-in-111 c = let both = away c.requires.reads 5 c.requires.topped c.in-111.is c.leaves-in-111.ensures (omega arith) (omega arith) in record { topped = both.0; tells = both.1 }
+returns-in-111 c = let both = away c.requires.reads c.requires.topped Callvirt c.in-111.is in record { topped = both.0; tells = both.1 }
 
 pub returns-in-115 : goal.returns-in-115
 unfolding opcode_of pick
-returns-in-115 c = let both = away c.requires.reads 6 c.requires.topped c.in-115.is c.leaves-in-115.ensures (omega arith) (omega arith) in record { topped = both.0; tells = both.1 }
+returns-in-115 c = let both = away c.requires.reads c.requires.topped Newobj c.in-115.is in record { topped = both.0; tells = both.1 }
 
 pub returns-in-116 : goal.returns-in-116
 returns-in-116 c = let both = casting c.cast.result c.requires.reads c.in-116.is (c.cast.ensures.own, c.cast.ensures.meets) in record { topped = both.0; tells = both.1 }
@@ -541,13 +287,13 @@ pub returns-in-128 : goal.returns-in-128
 returns-in-128 c = let both = of_class c.static_store.result c.requires.reads c.in-128.is (c.static_store.ensures.own, c.static_store.ensures.meets) in record { topped = both.0; tells = both.1 }
 
 pub returns-in-214 : goal.returns-in-214
-returns-in-214 c = let both = two_operands c.two-in-214.result c.requires.reads c.in-214.is 10 overflows.0 c.two-in-214.ensures in record { topped = both.0; tells = both.1 }
+returns-in-214 c = let both = two_operands c.binary-in-214.result c.requires.reads c.in-214.is 10 overflows.0 (c.binary-in-214.ensures.own, c.binary-in-214.ensures.meets) in record { topped = both.0; tells = both.1 }
 
 pub returns-in-216 : goal.returns-in-216
-returns-in-216 c = let both = two_operands c.two-in-216.result c.requires.reads c.in-216.is 11 overflows.1 c.two-in-216.ensures in record { topped = both.0; tells = both.1 }
+returns-in-216 c = let both = two_operands c.binary-in-216.result c.requires.reads c.in-216.is 11 overflows.1 (c.binary-in-216.ensures.own, c.binary-in-216.ensures.meets) in record { topped = both.0; tells = both.1 }
 
 pub returns-in-218 : goal.returns-in-218
-returns-in-218 c = let both = two_operands c.two-in-218.result c.requires.reads c.in-218.is 12 overflows.2 c.two-in-218.ensures in record { topped = both.0; tells = both.1 }
+returns-in-218 c = let both = two_operands c.binary-in-218.result c.requires.reads c.in-218.is 12 overflows.2 (c.binary-in-218.ensures.own, c.binary-in-218.ensures.meets) in record { topped = both.0; tells = both.1 }
 
 pub returns-in-254 : goal.returns-in-254
 returns-in-254 c = let both = comparing c.compared.result c.requires.reads c.in-254.is (c.compared.ensures.own, c.compared.ensures.meets) in record { topped = both.0; tells = both.1 }
@@ -559,4 +305,4 @@ pub returns-in-1 : goal.returns-in-1
 returns-in-1 c = let both = unknown c.requires.reads c.requires.topped (no_odd _ c.in-1.is) c.ends-in-1.ensures in record { topped = both.0; tells = both.1 }
 
 pub returns-in_default : goal.returns-in_default
-returns-in_default c = let both = unknown_last c.requires.reads c.requires.topped (no_other _ c.requires.reads.few c.in_default.in_default-own.rest.0.0) c.leaves-in_default.ensures in record { topped = both.0; tells = both.1 }
+returns-in_default c = let both = unknown c.requires.reads c.requires.topped (no_other _ c.requires.reads.few c.in_default.in_default-own.rest.0.0) c.ends-in_default.ensures in record { topped = both.0; tells = both.1 }

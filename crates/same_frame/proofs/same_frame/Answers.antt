@@ -13,33 +13,27 @@ loop-left-init c = (omega arith, λ code P w most whole l p h g. g)
 
 pub returns-then-part-o : goal.returns-then-part-o
 returns-then-part-o c = let l = c in
-    record { left_at_most = l.loop-left.invariant.0; came = λ code P w most whole e p h g. past (l.loop-left.invariant.1 code P w most whole e p h g) (moves_in _ _ p) l.loop-left.left refl (more_left c.loop-left-test.true l.loop-left.invariant.0 h) c.if-part-o.true }
+    rw (c.stopped.ensures, c.ends.ensures) (record { left_at_most = l.loop-left.invariant.0; came = λ code P w most whole e p h g. past (l.loop-left.invariant.1 code P w most whole e p h g) (moves_in _ _ p) l.loop-left.left refl (more_left c.loop-left-test.true l.loop-left.invariant.0 h) c.if-part-o.true })
 
 pub bounds-part-o : goal.bounds-part-o
 bounds-part-o c = c.if-part-o.false
 
-pub step-t-requires : goal.step-t-requires
-step-t-requires c = let l = c in
+pub step-requires : goal.step-requires
+step-requires c = let l = c in
     let S = l.requires in
     let both = asks ((let it : let S = l.requires in
     Begins S.code S.tables (on_member S.work l.loop-left.o l.loop-left.s l.loop-left.cells l.loop-left.kinds l.loop-left.marks l.args.classes.now l.loop-left.heap l.loop-left.statics) = let S = l.requires in
     (l.loop-left.invariant.1 S.code S.tables S.work l.args.budget _ S.lends S.place (omega arith) (enters (omega arith) S.begins)).begins in it)) (moves_in _ _ S.place) S.lends _ c.if-part-o.false (refl, omega (arith, l.type_inv.part l.loop-left.o)) in record { stays = both.0; topped = both.1.0; reads = both.1.1.0; few = both.1.1.1.0; ranges = both.1.1.1.1 }
 
-pub merged-g-requires : goal.merged-g-requires
-merged-g-requires c = tt
-
-pub stopped-requires : goal.stopped-requires
-stopped-requires c = tt
-
-pub returns-then-g-ne-ON : goal.returns-then-g-ne-ON
-returns-then-g-ne-ON c = let t = c in
+pub returns-in_default : goal.returns-in_default
+returns-in_default c = let t = c in
     let l = t in
-    rw c.stopped.ensures (record {
+    rw c.stopped-in_default.ensures (record {
       left_at_most = l.loop-left.invariant.0;
       came = λ code P w most whole e p h g. ends_here (l.loop-left.invariant.1 code P w most whole e p h g) (moves_in _ _ p)
           (more_left t.loop-left-test.true l.loop-left.invariant.0 h)
-          t.if-part-o.false _ _ (t.step-t.ensures.tells P w e) l.loop-left.left
-          (some_left t.loop-left-test.true) refl _ c.merged-g.ensures c.if-g-ne-ON.true;
+          t.if-part-o.false l.loop-left.left
+          (some_left t.loop-left-test.true) refl _ _ (t.step.ensures.tells P w e) c.in_default.not-On;
     })
 
 pub overflow_sub-left : goal.overflow_sub-left
@@ -61,9 +55,9 @@ loop-left-preserved c =
       omega arith,
       λ code P w most whole e p h g. one_less z f h (goes_to (l.loop-left.invariant.1 code P w most whole e p h g) (moves_in _ _ p)
           (more_left t.loop-left-test.true f h)
-          t.if-part-o.false _ _ (t.step-t.ensures.tells P w e) refl _ c.merged-g.ensures c.if-g-ne-ON.false),
+          t.if-part-o.false _ (t.step.ensures.tells P w e) c.in-On.is),
     )
 
 pub returns : goal.returns
 returns c = let l = c in
-    record { left_at_most = omega arith; came = λ code P w most whole e p h g. used_up (l.loop-left.invariant.1 code P w most whole e p h g) (moves_in _ _ p) (omega (arith, c.loop-left-test.false)) }
+    rw (c.stopped-2.ensures, c.ends-2.ensures) (record { left_at_most = omega arith; came = λ code P w most whole e p h g. used_up (l.loop-left.invariant.1 code P w most whole e p h g) (moves_in _ _ p) (omega (arith, c.loop-left-test.false)) })

@@ -19,7 +19,7 @@ pub first_due-first-requires : goal.first_due-first-requires
 first_due-first-requires c = record { few = c.requires.reaches.initialiser_few; class_at_most = omega (arith, c.requires.reaches.ranges.owner_few c.args.r, c.wide-class.ensures.0) }
 
 pub returns-then-first-ne0 : goal.returns-then-first-ne0
-returns-then-first-ne0 c = rw c.ends-then-first-ne0.ensures (record { own = search rules; meets = λ s. ldfld_waits _ _ _ _ _ _ _ c.if-sp-y.false c.if-kinds-sp-ne0.false c.refers.ensures (ap not c.if-not-refers.false) c.wide-class.ensures.0 c.first_due-first.ensures c.if-first-ne0.true })
+returns-then-first-ne0 c = record { own = search rules; meets = λ s. ldfld_waits _ _ _ _ _ _ _ c.if-sp-y.false c.if-kinds-sp-ne0.false c.refers.ensures (ap not c.if-not-refers.false) c.wide-class.ensures.0 c.first_due-first.ensures c.if-first-ne0.true }
 
 pub returns-then-object-eq0 : goal.returns-then-object-eq0
 returns-then-object-eq0 c = rw c.ends-then-object-eq0.ensures (record { own = search rules; meets = λ s. ldfld_null _ _ _ _ _ _ _ c.if-sp-y.false c.if-kinds-sp-ne0.false c.refers.ensures (ap not c.if-not-refers.false) c.wide-class.ensures.0 c.first_due-first.ensures c.if-first-ne0.false c.if-object-eq0.true })
@@ -32,4 +32,4 @@ bounds-heap-place c = omega (arith, c.requires.reaches.ranges.cell_few c.args.r 
 
 pub returns : goal.returns
 unfolding goto
-returns c = rw c.on.ensures (record { own = search rules; meets = λ s. ldfld_goes _ _ _ _ _ _ _ c.if-sp-y.false c.if-kinds-sp-ne0.false c.refers.ensures (ap not c.if-not-refers.false) c.wide-class.ensures.0 c.first_due-first.ensures c.if-first-ne0.false c.if-object-eq0.false c.kind_of.ensures c.wide.ensures.0 })
+returns c = record { own = search rules; meets = λ s. ldfld_goes _ _ _ _ _ _ _ c.if-sp-y.false c.if-kinds-sp-ne0.false c.refers.ensures (ap not c.if-not-refers.false) c.wide-class.ensures.0 c.first_due-first.ensures c.if-first-ne0.false c.if-object-eq0.false c.kind_of.ensures c.wide.ensures.0 }

@@ -4,7 +4,7 @@ use Rattle.fields.proofs.Acting.{reaches, stsfld_refused, stsfld_does}
 use Rattle.fields.proofs.members.static_store.Goals as goal
 
 pub returns-then-n-ne0 : goal.returns-then-n-ne0
-returns-then-n-ne0 c = rw c.ends.ensures (record { own = search rules; meets = λ P s l. stsfld_refused P _ _ _ l c.requires.at_range.0 c.requires.get_or_is c.field_named-n.ensures c.if-n-ne0.true })
+returns-then-n-ne0 c = record { own = search rules; meets = λ P s l. stsfld_refused P _ _ _ l c.requires.at_range.0 c.requires.get_or_is c.field_named-n.ensures c.if-n-ne0.true }
 
 pub stsfld-requires : goal.stsfld-requires
 stsfld-requires c = record { reaches = reaches c.requires.reaches c.field_named-n.ensures.few; placed = c.requires.placed }

@@ -16,7 +16,7 @@ pub first_due-first-requires : goal.first_due-first-requires
 first_due-first-requires c = record { few = c.requires.reaches.initialiser_few; class_at_most = omega (arith, c.requires.reaches.ranges.owner_few c.args.r, c.wide-class.ensures.0) }
 
 pub returns-then-first-ne0 : goal.returns-then-first-ne0
-returns-then-first-ne0 c = rw c.ends-then-first-ne0.ensures (record { own = search rules; meets = λ s. stsfld_waits _ _ _ _ _ _ _ c.if-sp-y.false c.fits.ensures (ap not c.if-not-fits.false) c.wide-class.ensures.0 c.first_due-first.ensures c.if-first-ne0.true })
+returns-then-first-ne0 c = record { own = search rules; meets = λ s. stsfld_waits _ _ _ _ _ _ _ c.if-sp-y.false c.fits.ensures (ap not c.if-not-fits.false) c.wide-class.ensures.0 c.first_due-first.ensures c.if-first-ne0.true }
 
 pub bounds-marks-class : goal.bounds-marks-class
 bounds-marks-class c = omega (arith, c.requires.reaches.ranges.owner_few c.args.r, c.wide-class.ensures.0)
@@ -26,4 +26,4 @@ bounds-statics-wide c = omega (arith, c.requires.reaches.ranges.static_few c.arg
 
 pub returns : goal.returns
 unfolding goto
-returns c = rw c.on.ensures (record { own = search rules; meets = λ s. stsfld_goes _ _ _ _ _ _ _ c.if-sp-y.false c.fits.ensures (ap not c.if-not-fits.false) c.wide-class.ensures.0 c.first_due-first.ensures c.if-first-ne0.false c.wide.ensures.0 })
+returns c = record { own = search rules; meets = λ s. stsfld_goes _ _ _ _ _ _ _ c.if-sp-y.false c.fits.ensures (ap not c.if-not-fits.false) c.wide-class.ensures.0 c.first_due-first.ensures c.if-first-ne0.false c.wide.ensures.0 }

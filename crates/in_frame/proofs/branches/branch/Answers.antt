@@ -9,7 +9,7 @@ returns-then-len-target c = rw c.ends.ensures (record { own = search rules; meet
 
 pub returns-in-0 : goal.returns-in-0
 unfolding goto
-returns-in-0 c = rw c.on.ensures (record { own = search rules; meets = λ s. branch_always _ _ _ _ _ _ c.if-len-target.false c.in-0.is })
+returns-in-0 c = record { own = search rules; meets = λ s. branch_always _ _ _ _ _ _ c.if-len-target.false c.in-0.is }
 
 pub returns-in-1 : goal.returns-in-1
 returns-in-1 c = record { own = c.test.ensures.own; meets = λ s. instead (branch_true _ _ _ _ _ _ c.if-len-target.false c.in-1.is) (c.test.ensures.meets s) }

@@ -12,8 +12,8 @@ returns-then-kinds-i-ge3 c = rw c.ends-then-kinds-i-ge3.ensures (record { own = 
 
 pub returns-then-shown-eq0 : goal.returns-then-shown-eq0
 unfolding goto pick
-returns-then-shown-eq0 c = rw c.on.ensures (record { own = search rules; meets = λ s. test_goes _ _ _ _ c.if-sp-y.false c.if-kinds-i-ge3.false (eq-eqb _ _ (sym c.shown.ensures ∙ c.if-shown-eq0.true)) })
+returns-then-shown-eq0 c = record { own = search rules; meets = λ s. test_goes _ _ _ _ c.if-sp-y.false c.if-kinds-i-ge3.false (eq-eqb _ _ (sym c.shown.ensures ∙ c.if-shown-eq0.true)) }
 
 pub returns : goal.returns
 unfolding goto pick
-returns c = rw c.on-2.ensures (record { own = search rules; meets = λ s. test_goes _ _ _ _ c.if-sp-y.false c.if-kinds-i-ge3.false (ne_eqb _ _ (λ z. c.if-shown-eq0.false (c.shown.ensures ∙ z))) })
+returns c = record { own = search rules; meets = λ s. test_goes _ _ _ _ c.if-sp-y.false c.if-kinds-i-ge3.false (ne_eqb _ _ (λ z. c.if-shown-eq0.false (c.shown.ensures ∙ z))) }

@@ -8,4 +8,4 @@ returns-then-sp-y c = rw c.ends.ensures (record { own = search rules; meets = λ
 
 pub returns : goal.returns
 unfolding goto
-returns c = rw c.on.ensures (record { own = search rules; meets = λ s. pop_goes _ _ _ c.if-sp-y.false })
+returns c = record { own = search rules; meets = λ s. pop_goes _ _ _ c.if-sp-y.false }

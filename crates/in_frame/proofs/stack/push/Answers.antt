@@ -8,4 +8,4 @@ returns-then-y-sp c = rw c.ends.ensures (record { own = search rules; meets = λ
 
 pub returns : goal.returns
 unfolding put goto
-returns c = rw c.on.ensures (record { own = search rules; meets = λ s. push_goes _ _ _ _ _ c.if-y-sp.false })
+returns c = record { own = search rules; meets = λ s. push_goes _ _ _ _ _ c.if-y-sp.false }

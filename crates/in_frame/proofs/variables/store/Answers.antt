@@ -11,7 +11,7 @@ returns-then-sp-y c = rw c.ends-then-sp-y.ensures (record { own = search rules; 
 
 pub returns-then-fits : goal.returns-then-fits
 unfolding goto
-returns-then-fits c = rw c.on.ensures (record { own = search rules; meets = λ s e. store_goes _ _ _ _ _ _ c.if-byte-eq0.false c.if-sp-y.false e c.fits.ensures c.if-fits.true })
+returns-then-fits c = record { own = search rules; meets = λ s e. store_goes _ _ _ _ _ _ c.if-byte-eq0.false c.if-sp-y.false e c.fits.ensures c.if-fits.true }
 
 pub returns : goal.returns
 returns c = rw c.ends-2.ensures (record { own = search rules; meets = λ s e. store_wrong _ _ _ _ _ _ c.if-byte-eq0.false c.if-sp-y.false e c.fits.ensures c.if-fits.false })
