@@ -5,7 +5,7 @@ use mathlib.Core.Path.{◌≡◌, refl, sym, ap, ◌∙◌, subst}
 use mathlib.Core.Option.{Option, none, some}
 use mathlib.Core.List.{List, [], ◌∷◌}
 use native.Mathlib.Omega.{arith}
-use lib.ListN.{length, get_or, drop, replicate, length-replicate}
+use lib.ListN.{length, get_or, drop}
 use Rattle.model.specs.Answer.{Answer, bad, ok, ◌>>=◌, blame, or_else, at, row}
 use Rattle.model.specs.Tables.{Ty, int32, int64, F, null, class, byte_of, sort_byte, Field, Method, Module, method_at, arguments, part_of}
 use Rattle.model.specs.Loading.{Refusal, refusal}
@@ -16,7 +16,13 @@ use Rattle.loaded.specs.declared.Loaded.{Loaded}
 use Rattle.loaded.specs.Holds.{byte_at, from_row, method_cell, part_length, Holds}
 use Rattle.shapes.specs.Effects.{Gives, Types}
 use Rattle.check_operands.specs.Held.{HeldClasses, HeldFields, HeldMethods, Held}
-use Rattle.passes.specs.Fused.{Tells, Ready, Passing}
+use Rattle.shapes.specs.Pool.{Pool}
+use Rattle.visits.specs.declared.fault.FaultKind.{FaultKind}
+use Rattle.visits.specs.declared.fault.FaultKind.TheVariants.{Undecodable, Operand, TooFew, TooMany, WrongType, OtherShape, FallsPast}
+use Rattle.visits.specs.Faults.{number}
+use Rattle.visits.specs.Notes.{Ready}
+use Rattle.passes.specs.declared.pass.FaultAt.{FaultAt}
+use Rattle.passes.specs.Fused.{Tells, Passing}
 use Rattle.checker.specs.Bounded.{Bounded}
 use Rattle.std.specs.Prelude.{Result, Ok, Err, ⊤}
 use Rattle.checker.specs.Answers.{fault_of, Answers}
@@ -136,6 +142,15 @@ module _ (M : Module) (code : List ℕ) (L : Loaded) (B : Bounded M) (H : Holds 
 
 -- ---- Methods by row
 
+number_range : (kind : FaultKind) → (10 < number kind) × (number kind < 18)
+number_range Undecodable = (omega arith, omega arith)
+number_range Operand = (omega arith, omega arith)
+number_range TooFew = (omega arith, omega arith)
+number_range TooMany = (omega arith, omega arith)
+number_range WrongType = (omega arith, omega arith)
+number_range OtherShape = (omega arith, omega arith)
+number_range FallsPast = (omega arith, omega arith)
+
 -- what is answered of the methods from a row on is answered of all
 pub record Checking (M : Module) (r : ℕ) : Type 0 where
   pub rest : (a : Result ⊤ Fault) → Answers (check_methods M r (drop (r - 1) M.methods)) a → Answers (check_module M) a
@@ -159,7 +174,7 @@ the_row (m ∷ ms) (suc (suc r)) h k =
     let z : suc (suc r) - 1 ≡ suc (suc r - 1) = omega arith in
     record { method = s.method; is = s.is; left = ap (λ (j : ℕ). drop j (m ∷ ms)) z ∙ s.left }
 
-module _ (M : Module) (r a b : ℕ) (w : Row M.methods r) (c : Checking M r) (t : Tells a b (check_method M w.method)) where
+module _ (M : Module) (r : ℕ) (w : Row M.methods r) (c : Checking M r) where
   -- what is answered after this method's check
   from : Answer Refusal Shapes → Answer ModelFault (List Shapes)
   from A = blame (fault_in r) A >>= λ found. check_methods M (suc r) (drop r M.methods) >>= λ l. ok (found ∷ l)
@@ -168,27 +183,32 @@ module _ (M : Module) (r a b : ℕ) (w : Row M.methods r) (c : Checking M r) (t 
   unfolding check_methods ◌>>=◌ from
   here x h = c.rest x (subst (λ (l : List Method). Answers (check_methods M r l) x) (sym w.left) h)
 
-  pub checking_next : 1 ≤ r → a ≡ 0 → Checking M (r + 1)
+  pub checking_next : 1 ≤ r → Tells (Ok tt) (check_method M w.method) → Checking M (r + 1)
   unfolding Tells Answers ◌>>=◌ blame from
-  checking_next h z = record { rest = λ x p. here x (by (check_method M w.method) t x p) }
+  checking_next h t = record { rest = λ x p. here x (by (check_method M w.method) t x p) }
     where
       on : (A : Answer ModelFault (List Shapes)) (G : Shapes) (x : Result ⊤ Fault) → Answers A x → Answers (A >>= λ l. ok (G ∷ l)) x
       on (bad f) G x h = h
       on (ok l) G x h = h
 
-      by : (A : Answer Refusal Shapes) → Tells a b A → (x : Result ⊤ Fault) → Answers (check_methods M (r + 1) (drop (r + 1 - 1) M.methods)) x → Answers (from A) x
-      by (bad f) t x p = let y : 10 < a = t.1 in absurd (omega arith)
+      by : (A : Answer Refusal Shapes) → Tells (Ok tt) A → (x : Result ⊤ Fault) → Answers (check_methods M (r + 1) (drop (r + 1 - 1) M.methods)) x
+          → Answers (from A) x
+      by (bad f) t x p = let z : ◌≡◌ {A = Result ⊤ FaultAt} (Ok tt) (Err t.0) = t.1 in absurd (cc)
       by (ok G) t x p =
           let y : r + 1 - 1 ≡ r = omega arith in
           on (check_methods M (suc r) (drop r M.methods)) G x (rw (y, add-one r) at p)
 
-  pub checking_fault : (a ≡ 0 → ⊥) → Answers (check_module M) (Err (record { number = a; method = r; offset = b }))
+  pub checking_fault : (f : FaultAt) → Tells (Err f) (check_method M w.method)
+      → Answers (check_module M) (Err (record { number = number f.kind; method = r; offset = f.offset }))
   unfolding Tells Answers ◌>>=◌ blame from fault_in fault_of refusal
-  checking_fault z = here (Err (record { number = a; method = r; offset = b })) (by (check_method M w.method) t)
+  checking_fault f t = here (Err (record { number = number f.kind; method = r; offset = f.offset })) (by (check_method M w.method) t)
     where
-      by : (A : Answer Refusal Shapes) → Tells a b A → Answers (from A) (Err (record { number = a; method = r; offset = b }))
-      by (bad f) t = rw (← t.0) (refl, t.1, t.2)
-      by (ok G) t = absurd (z t)
+      by : (A : Answer Refusal Shapes) → Tells (Err f) A → Answers (from A) (Err (record { number = number f.kind; method = r; offset = f.offset }))
+      by (bad g) t =
+          let z : f ≡ t.0 = let y : ◌≡◌ {A = Result ⊤ FaultAt} (Err f) (Err t.0) = t.1 in cc in
+          let n = number_range f.kind in
+          rw (← t.2, ← z) (refl, n.0, n.1)
+      by (ok G) t = let z : ◌≡◌ {A = Result ⊤ FaultAt} (Err f) (Ok tt) = t in absurd (cc)
 
 drop_past : (ms : List Method) (r : ℕ) → length ms ≤ r → drop r ms ≡ []
 drop_past [] zero h = refl
@@ -202,36 +222,16 @@ checking_end M r x c h k e = c.rest x (subst (λ (l : List Method). Answers (che
 
 -- ---- Ready for the next method
 
-zeros_at : (n i : ℕ) → ◌≡◌ {A = ℕ} (get_or (replicate n 0) i 0) 0
-zeros_at zero i = refl
-zeros_at (suc n) zero = refl
-zeros_at (suc n) (suc i) = zeros_at n i
-
-pub ready_first : Ready (replicate 1024 0) (replicate 2048 0) (replicate 2048 0) (replicate 2048 0)
-ready_first = record {
-  found_size = length-replicate {A = ℕ} 1024 0;
-  fine = record {
-    tops = length-replicate {A = ℕ} 2048 0;
-    belows = length-replicate {A = ℕ} 2048 0;
-    heights = length-replicate {A = ℕ} 2048 0;
-    some = omega arith;
-    few = omega arith;
-    empty = zeros_at 2048 1;
-  };
-}
-
-pub ready_next : {A : Answer Refusal Shapes} {n : ℕ} {found tops belows heights : List ℕ} → Passing A n found tops belows heights
-    → Ready found tops belows heights
+pub ready_next : {A : Answer Refusal Shapes} {n : ℕ} {found : List ℕ} {P : Pool} → Passing A n found P → Ready found P
 ready_next p = record {
   found_size = p.kept.array;
   fine = record { tops = p.fine.tops; belows = p.fine.belows; heights = p.fine.heights; some = omega arith; few = omega arith; empty = p.fine.empty };
 }
 
 -- a method that passes is not told at fault
-pub failed : {X : Type 0} (A : Answer Refusal Shapes) (G : Shapes) (a b : ℕ) → Tells a b A → A ≡ ok G → (a ≡ 0 → ⊥) → X
+pub failed : {X : Type 0} (A : Answer Refusal Shapes) (G : Shapes) (f : FaultAt) → Tells (Err f) A → A ≡ ok G → X
 unfolding Tells
-failed A G a b t e n = absurd (n (rw e at t))
+failed A G f t e = let z : ◌≡◌ {A = Result ⊤ FaultAt} (Err f) (Ok tt) = rw e at t in absurd (cc)
 
-pub passing_size : {A : Answer Refusal Shapes} {n k : ℕ} {found tops belows heights : List ℕ} → n ≡ k → Passing A n found tops belows heights
-    → Passing A k found tops belows heights
+pub passing_size : {A : Answer Refusal Shapes} {n k : ℕ} {found : List ℕ} {P : Pool} → n ≡ k → Passing A n found P → Passing A k found P
 passing_size e p = rw (← e) p

@@ -5,16 +5,19 @@ ghost use Rattle.model.specs.Answer.{ok};
 ghost use Rattle.model.specs.Tables.{Module};
 ghost use Rattle.model.specs.Check.{Shape, Shapes, check_module, found_at};
 ghost use Rattle.loaded.specs.Holds.{Holds};
-ghost use Rattle.shapes.specs.Pool.{pool, Fine, Shows};
+ghost use Rattle.shapes.specs.Pool.{Fine, Shows};
 ghost use Rattle.visits.specs.Found.{Kept};
+ghost use Rattle.visits.specs.Notes.{seen};
 ghost use Rattle.checker.specs.Bounded.{Bounded};
 ghost use Rattle.checker.specs.Told.{told};
 
-use super::{MOST_METHODS, Notes, Tables, method_at};
+use super::{MOST_METHODS, method_at};
 use loaded::Loaded;
 use loaded::columns::{LENGTH, PART};
 use shapes::fit::wide;
 use shapes::shape::{SHAPES, below};
+use visits::notes::{Notes, Pool};
+use visits::tables::Tables;
 
 // The most types of a shape.
 const MOST_STACK: usize = 32;
@@ -27,29 +30,27 @@ pub struct Found {
 }
 
 // The types of a shape, from the top down.
-fn types_of(notes: &Notes, s: usize) -> Option<Found>
+fn types_of(pool: &Pool, s: usize) -> Option<Found>
     requires { s < 2048 }
-    ensures { (k : ℕ) (S : Shape) → Fine (pool notes.now.tops notes.now.belows notes.now.heights k) →
-        Shows (pool notes.now.tops notes.now.belows notes.now.heights k) S s → length S ≤ 32 → result ≡ told (some S) }
+    ensures { (S : Shape) → Fine (seen pool.now) → Shows (seen pool.now) S s → length S ≤ 32 → result ≡ told (some S) }
 {
-    let depth = wide(notes.heights[s]);
+    let depth = wide(pool.heights[s]);
     if MOST_STACK < depth {
         return None;
     }
     let mut types = [0u8; 32];
     let mut x = s;
     for n in (0..depth).rev() {
-        types[n] = notes.tops[x];
-        x = below(&notes.belows, x);
+        types[n] = pool.tops[x];
+        x = below(&pool.belows, x);
     }
     Some(Found { depth, types })
 }
 
 // The shape found at an offset of a method of a size.
 fn found_at(notes: &Notes, size: usize, offset: usize) -> Option<Found>
-    ensures { (k : ℕ) (F : Shapes) → size ≤ 1024 → Fine (pool notes.now.tops notes.now.belows notes.now.heights k) →
-        Kept (pool notes.now.tops notes.now.belows notes.now.heights k) size F notes.now.found → ((S : Shape) →
-        get_or F offset none ≡ some S → length S ≤ 32) → result ≡ told (get_or F offset none) }
+    ensures { (F : Shapes) → size ≤ 1024 → Fine (seen notes.now.pool) → Kept (seen notes.now.pool) size F notes.now.found →
+        ((S : Shape) → get_or F offset none ≡ some S → length S ≤ 32) → result ≡ told (get_or F offset none) }
 {
     if size <= offset {
         return None;
@@ -58,7 +59,7 @@ fn found_at(notes: &Notes, size: usize, offset: usize) -> Option<Found>
     if s == 0 {
         return None;
     }
-    types_of(notes, s)
+    types_of(&notes.pool, s)
 }
 
 // The shape found before the instruction at an offset of the method at a row, in a module that passes; none where no instruction starts there.
@@ -71,10 +72,8 @@ pub fn tell(loaded: &Loaded, code: &[u8], row: usize, offset: usize) -> Option<F
     }
     let tables = Tables::new();
     let mut notes = Notes::new();
-    let t = method_at(loaded, code, row, &tables, &mut notes);
-    let size = loaded.parts[row * PART + LENGTH];
-    if t.number != 0 {
-        return None;
+    match method_at(loaded, code, row, &tables, &mut notes) {
+        Ok(()) => found_at(&notes, loaded.parts[row * PART + LENGTH], offset),
+        Err(_) => None,
     }
-    found_at(&notes, size, offset)
 }

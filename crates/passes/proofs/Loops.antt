@@ -17,35 +17,19 @@ use Rattle.model.specs.Check.{Shapes, Site, starts, find_operands, visit, visits
 use Rattle.code.specs.declared.insn.Insn.{Insn}
 use Rattle.code.specs.Insn.{ins_of, size_at}
 use Rattle.code.proofs.Sizes.{Decodes, a_size}
+use Rattle.std.specs.Prelude.{Result, Ok, Err, ⊤}
 use Rattle.shapes.specs.Pool.{Pool, Fine}
+use Rattle.visits.specs.declared.fault.FaultKind.{FaultKind}
+use Rattle.visits.specs.declared.fault.FaultKind.TheVariants.{Undecodable, Operand, TooFew, TooMany, WrongType, OtherShape, FallsPast}
+use Rattle.visits.specs.Faults.{number}
+use Rattle.passes.specs.declared.pass.FaultAt.{FaultAt}
 use Rattle.visits.specs.Found.{Stands, Kept, Starts, Went, WentBy}
-use Rattle.passes.specs.Fused.{onward, Tells, Late, Cleared, Sizes, Scanned, Rest, Reading, Passing, nothing}
+use Rattle.passes.specs.Fused.{onward, Tells, Late, Sizes, Scanned, Rest, Reading, Passing, nothing}
 use Rattle.visits.specs.Visits.{act_of, Visits}
 use Rattle.passes.proofs.Passes.{site, onto, decode_more, decode_stop, decode_end, onto_onto, next_of, never_stops, starts_snoc, finds_none}
 use Rattle.passes.proofs.Passes.{finds_some, pass_operand, pass_on, pass_fault}
 
--- ---- Clearing
-
-zero_set : (l : List ℕ) (o : ℕ) → get_or (set l o 0) o 0 ≡ 0
-zero_set [] o = refl
-zero_set (x ∷ l) zero = refl
-zero_set (x ∷ l) (suc o) = zero_set l o
-
-pub cleared_none : (l : List ℕ) → Cleared 0 l l
-cleared_none l = record { size = refl; zeros = λ o h. absurd (omega arith) }
-
-pub cleared_more : (n : ℕ) (l k : List ℕ) → Cleared n l k → Cleared (n + 1) l (set k n 0)
-cleared_more n l k c = record { size = length-set k n 0 ∙ c.size; zeros = λ o h. by o h (eqb o n) refl }
-  where
-    by : (o : ℕ) → o < n + 1 → (b : Bool) → eqb o n ≡ b → get_or (set k n 0) o 0 ≡ 0
-    by o h true e = let q : o ≡ n = eqb-true o n e in rw q (zero_set k n)
-    by o h false e = get_or-set_other k n o 0 0 (eqb-false o n e) ∙ c.zeros o (less o n h (eqb-false o n e))
-      where
-        less : (o n : ℕ) → o < n + 1 → (o ≡ n → ⊥) → o < n
-        less zero zero h e = absurd (e refl)
-        less zero (suc n) h e = omega arith
-        less (suc o) zero h e = absurd (omega arith)
-        less (suc o) (suc n) h e = let k : o < n = less o n (omega arith) (λ q. e (ap suc q)) in omega arith
+-- ---- What is found at first
 
 found_none : (n o : ℕ) → get_or (nothing n) o none ≡ none
 unfolding nothing
@@ -194,42 +178,43 @@ append_none : (l : List (Site Ins)) → l ++ [] ≡ l
 append_none [] = refl
 append_none (x ∷ l) = ap (λ (r : List (Site Ins)). x ∷ r) (append_none l)
 
-pub scanning_end : (code l : List ℕ) (at : ℕ) → Scanning code l at → length code ≤ at → Scanned code (length code) l (decode_from (length code) code 0)
+pub scanning_end : (code l : List ℕ) (at : ℕ) → Scanning code l at → length code ≤ at → Scanned code (Ok tt) l (decode_from (length code) code 0)
 unfolding Scanned onto
 scanning_end code l at s h = rw (s.is, decode_end s.fuel code at h, append_none s.read) (refl, s.marks, s.sizes)
 
 pub scanning_stop : (code l : List ℕ) (at : ℕ) → Scanning code l at → at < length code → decode code at ≡ none
-    → Scanned code at l (decode_from (length code) code 0)
+    → Scanned code (Err (record { kind = Undecodable; offset = at })) l (decode_from (length code) code 0)
 unfolding Scanned onto
 scanning_stop code l at s k e =
-    rw (s.is, one_less (length code) at s.fuel s.enough k, decode_stop (s.fuel - 1) code at k e) (refl, k)
+    rw (s.is, one_less (length code) at s.fuel s.enough k, decode_stop (s.fuel - 1) code at k e) (record { kind = Undecodable; offset = at }, refl, refl)
 
 -- ---- Operand faults after a shape's
 
 pub record Searching (M : Module) (m : Method) (all l : List (Site Ins)) (code : List ℕ) (at : ℕ) : Type 0 where
   pub left : List (Site Ins)
   pub rest : Rest code at left
-  pub back : (a b x y : ℕ) → Late a b x y (find_operands M m all left) → Late a b x y (find_operands M m all l)
+  pub back : (x was : FaultAt) → Late x was (find_operands M m all left) → Late x was (find_operands M m all l)
 
 pub searching_start : (M : Module) (m : Method) (all l : List (Site Ins)) (code : List ℕ) (at : ℕ) → Rest code at l → Searching M m all l code at
-searching_start M m all l code at r = record { left = l; rest = r; back = λ a b x y h. h }
+searching_start M m all l code at r = record { left = l; rest = r; back = λ x was h. h }
 
-late_nil : (M : Module) (m : Method) (all l : List (Site Ins)) (a b : ℕ) → l ≡ [] → Late a b a b (find_operands M m all l)
+late_nil : (M : Module) (m : Method) (all l : List (Site Ins)) (x : FaultAt) → l ≡ [] → Late x x (find_operands M m all l)
 unfolding Late find_operands
-late_nil M m all l a b e = rw e (refl, refl)
+late_nil M m all l x e = rw e refl
 
 module _ (M : Module) (m : Method) (all l : List (Site Ins)) (code : List ℕ) (at : ℕ) (s : Searching M m all l code at) where
-  pub searching_end : (a b : ℕ) → length code ≤ at → Late a b a b (find_operands M m all l)
-  searching_end a b h = s.back a b a b (late_nil M m all s.left a b (rest_end code at s.left s.rest h))
+  pub searching_end : (x : FaultAt) → length code ≤ at → Late x x (find_operands M m all l)
+  searching_end x h = s.back x x (late_nil M m all s.left x (rest_end code at s.left s.rest h))
 
   module _ (k : at < length code) (i : Insn) (e : decode code at ≡ some (record { ins = ins_of i; next = i.next })) (w : at < i.next) where
     the_next : Follows code at (record { ins = ins_of i; next = i.next }) s.left
     the_next = follows code at s.left s.rest k (record { ins = ins_of i; next = i.next }) e w
 
-    pub searching_fault : (x y : ℕ) → true ≡ is_none (act_of M m all (ins_of i)) → Late 12 at x y (find_operands M m all l)
+    pub searching_fault : (was : FaultAt) → true ≡ is_none (act_of M m all (ins_of i))
+        → Late (record { kind = Operand; offset = at }) was (find_operands M m all l)
     unfolding Late site is_none
-    searching_fault x y q =
-        s.back 12 at x y
+    searching_fault was q =
+        s.back (record { kind = Operand; offset = at }) was
         (rw (
           the_next.is,
           finds_none M m all (site at (record { ins = ins_of i; next = i.next })) the_next.more
@@ -247,9 +232,9 @@ module _ (M : Module) (m : Method) (all l : List (Site Ins)) (code : List ℕ) (
         d : Decoded
         d = record { ins = ins_of i; next = i.next }
 
-        after : (A : Answer Refusal (List (Site Act))) (a b x y : ℕ) (c : Site Act) → Late a b x y A → Late a b x y (A >>= λ j. ok (c ∷ j))
-        after (bad f) a b x y c h = h
-        after (ok j) a b x y c h = h
+        after : (A : Answer Refusal (List (Site Act))) (x was : FaultAt) (c : Site Act) → Late x was A → Late x was (A >>= λ j. ok (c ∷ j))
+        after (bad f) x was c h = h
+        after (ok j) x was c h = h
 
         go : (o : Option Act) → act_of M m all (ins_of i) ≡ o → is_none o ≡ false → Searching M m all l code i.next
         go none p r = let z : ◌≡◌ {A = ℕ} 0 1 = cc in absurd (omega arith)
@@ -257,8 +242,8 @@ module _ (M : Module) (m : Method) (all l : List (Site Ins)) (code : List ℕ) (
             record {
               left = the_next.more;
               rest = the_next.rest;
-              back = λ a b x y w. s.back a b x y (rw (the_next.is, finds_some M m all (site at d) the_next.more c p)
-                  (after (find_operands M m all the_next.more) a b x y (record { offset = at; what = c; next = i.next }) w));
+              back = λ x was w. s.back x was (rw (the_next.is, finds_some M m all (site at d) the_next.more c p)
+                  (after (find_operands M m all the_next.more) x was (record { offset = at; what = c; next = i.next }) w));
             }
 
 -- ---- Operands and shapes
@@ -301,6 +286,25 @@ went_twelve P n r l f (some a) h e = absurd (go (f a) h)
     go (bad k) h = let x : r ≡ k = h.0 in let y : 12 < k = h.1 in omega arith
     go (ok F) h = let x : r ≡ 0 = h.0 in omega arith
 
+-- a fault has a number
+some_number : (kind : FaultKind) → number kind ≡ 0 → ⊥
+some_number Undecodable e = omega arith
+some_number Operand e = omega arith
+some_number TooFew e = omega arith
+some_number TooMany e = omega arith
+some_number WrongType e = omega arith
+some_number OtherShape e = omega arith
+some_number FallsPast e = omega arith
+
+pub only_operand : (kind : FaultKind) → number kind ≡ 12 → kind ≡ Operand
+only_operand Undecodable e = absurd (omega arith)
+only_operand Operand e = refl
+only_operand TooFew e = absurd (omega arith)
+only_operand TooMany e = absurd (omega arith)
+only_operand WrongType e = absurd (omega arith)
+only_operand OtherShape e = absurd (omega arith)
+only_operand FallsPast e = absurd (omega arith)
+
 pub record Failed {A : Type 0} (r : ℕ) (f : A → Answer ℕ Shapes) (o : Option A) : Type 0 where
   pub what : A
   pub is : o ≡ some what
@@ -324,12 +328,11 @@ module _ (M : Module) (m : Method) (all : List (Site Ins)) (code : List ℕ) (P 
   ended l e = rw e refl
 
   pub going_end : length code ≤ at
-      → Tells 0 0 (onward M m all all (nothing (length code)))
-      × (◌≡◌ {A = ℕ} 0 0 → Passing (onward M m all all (nothing (length code))) (length code) found P.tops P.belows P.heights)
+      → Tells (Ok tt) (onward M m all all (nothing (length code))) × Passing (onward M m all all (nothing (length code))) (length code) found P
   unfolding Tells
   going_end h =
       let e = s.same ∙ ended s.left (rest_end code at s.left s.rest h) in
-      (rw e refl, λ _. record { shapes = s.shapes; is = e; made = P.made; fine = s.fine; kept = s.kept })
+      (rw e refl, record { shapes = s.shapes; is = e; fine = s.fine; kept = s.kept })
 
   module _ (k : at < length code) (i : Insn) (e : decode code at ≡ some (record { ins = ins_of i; next = i.next })) (x : at < i.next)
       (Q : Pool) (l : List ℕ) (r : ℕ) (v : Visits M m all s.shapes at i (length code) r l Q) where
@@ -340,9 +343,9 @@ module _ (M : Module) (m : Method) (all : List (Site Ins)) (code : List ℕ) (P 
     unfolding Visits
     told = v
 
-    pub going_operand : r ≡ 12 → Tells 12 at (onward M m all all (nothing (length code)))
+    pub going_operand : (kind : FaultKind) → number kind ≡ r → r ≡ 12 → Tells (Err (record { kind = kind; offset = at })) (onward M m all all (nothing (length code)))
     unfolding Tells site
-    going_operand q =
+    going_operand kind u q =
         rw (
           s.same,
           after.is,
@@ -350,7 +353,7 @@ module _ (M : Module) (m : Method) (all : List (Site Ins)) (code : List ℕ) (P 
               (went_twelve Q (length code) r l (λ a. visit M m s.shapes (record { offset = at; what = a; next = i.next })) (act_of M m all (ins_of i))
               told.0 q),
         )
-        (refl, omega arith, omega arith)
+        (record { kind = kind; offset = at }, refl, ap (λ (n : ℕ). refusal n at) (u ∙ q))
 
     pub going_next : r ≡ 0 → Going M m all code Q l i.next
     unfolding site
@@ -368,28 +371,22 @@ module _ (M : Module) (m : Method) (all : List (Site Ins)) (code : List ℕ) (P 
         }
 
     -- a fault of a shape, unless an operand fault follows
-    pub going_fault : (a b : ℕ) → (r ≡ 0 → ⊥) → (r ≡ 12 → ⊥) → Late a b r at (find_operands M m all after.more)
-        → Tells a b (onward M m all all (nothing (length code))) × (a ≡ 0 → ⊥)
+    pub going_fault : (kind : FaultKind) (f : FaultAt) → number kind ≡ r → (r ≡ 12 → ⊥)
+        → Late f (record { kind = kind; offset = at }) (find_operands M m all after.more) → Tells (Err f) (onward M m all all (nothing (length code)))
     unfolding Tells Late site ◌>>=◌
-    going_fault a b z y w =
-        let f = went_fault Q (length code) r l (λ a. visit M m s.shapes (record { offset = at; what = a; next = i.next })) (act_of M m all (ins_of i))
-        told.0 z y in (
-          rw (
-            s.same,
-            after.is,
-            pass_fault M m all (site at (record { ins = ins_of i; next = i.next })) after.more s.shapes f.what r f.is
-                f.answer,
-          ) (by (find_operands M m all after.more) f.high f.low w),
-          not_zero (find_operands M m all after.more) f.high w,
-        )
+    going_fault kind f u y w =
+        let g = went_fault Q (length code) r l (λ a. visit M m s.shapes (record { offset = at; what = a; next = i.next })) (act_of M m all (ins_of i))
+        told.0 (λ z. some_number kind (u ∙ z)) y in
+        rw (
+          s.same,
+          after.is,
+          pass_fault M m all (site at (record { ins = ins_of i; next = i.next })) after.more s.shapes g.what r g.is
+              g.answer,
+        ) (by (find_operands M m all after.more) w)
       where
-        by : (A : Answer Refusal (List (Site Act))) → 12 < r → r < 18 → Late a b r at A → Tells a b (A >>= λ _. bad (refusal r at))
-        by (bad g) t v u = let x : a ≡ 12 = u.1 in (u.0, omega arith, omega arith)
-        by (ok j) t v u = let x : a ≡ r = u.0 in (rw (u.0, u.1) refl, omega arith, omega arith)
-
-        not_zero : (A : Answer Refusal (List (Site Act))) → 12 < r → Late a b r at A → a ≡ 0 → ⊥
-        not_zero (bad g) t u q = let x : a ≡ 12 = u.1 in omega arith
-        not_zero (ok j) t u q = let x : a ≡ r = u.0 in omega arith
+        by : (A : Answer Refusal (List (Site Act))) → Late f (record { kind = kind; offset = at }) A → Tells (Err f) (A >>= λ _. bad (refusal r at))
+        by (bad g) v = (f, refl, v.0)
+        by (ok j) v = (f, refl, rw v (ap (λ (n : ℕ). refusal n at) u))
 
 -- ---- A method
 
@@ -398,14 +395,14 @@ method_is : (M : Module) (m : Method) (code : List ℕ) → m.code ≡ code
 unfolding check_method onward nothing
 method_is M m code e = rw (← e) refl
 
-pub method_undecoded : (M : Module) (m : Method) (code l : List ℕ) (r : ℕ) → m.code ≡ code → Scanned code r l (decode_from (length code) code 0)
-    → r < length code → Tells 11 r (check_method M m)
+pub method_undecoded : (M : Module) (m : Method) (code l : List ℕ) (x : FaultAt) → m.code ≡ code
+    → Scanned code (Err x) l (decode_from (length code) code 0) → Tells (Err x) (check_method M m)
 unfolding Tells ◌>>=◌ Scanned
-method_undecoded M m code l r e s h = rw (method_is M m code e) (by (decode_from (length code) code 0) s)
+method_undecoded M m code l x e s = rw (method_is M m code e) (by (decode_from (length code) code 0) s)
   where
-    by : (A : Answer Refusal (List (Site Ins))) → Scanned code r l A → Tells 11 r (A >>= λ l. onward M m l l (nothing (length code)))
-    by (bad f) s = (s.0, omega arith, omega arith)
-    by (ok all) s = let x : r ≡ length code = s.0 in absurd (omega arith)
+    by : (A : Answer Refusal (List (Site Ins))) → Scanned code (Err x) l A → Tells (Err x) (A >>= λ l. onward M m l l (nothing (length code)))
+    by (bad f) s = s
+    by (ok all) s = let z : ◌≡◌ {A = Result ⊤ FaultAt} (Err x) (Ok tt) = s.0 in absurd (cc)
 
 pub record Decoding (code l : List ℕ) : Type 0 where
   pub sites : List (Site Ins)
@@ -413,12 +410,12 @@ pub record Decoding (code l : List ℕ) : Type 0 where
   pub marks : Starts sites (length code) l
   pub sizes : Sizes code sites l
 
-pub method_decoded : (code l : List ℕ) (r : ℕ) → Scanned code r l (decode_from (length code) code 0) → length code ≤ r → Decoding code l
+pub method_decoded : (code l : List ℕ) → Scanned code (Ok tt) l (decode_from (length code) code 0) → Decoding code l
 unfolding Scanned
-method_decoded code l r s h = by (decode_from (length code) code 0) refl s
+method_decoded code l s = by (decode_from (length code) code 0) refl s
   where
-    by : (A : Answer Refusal (List (Site Ins))) → decode_from (length code) code 0 ≡ A → Scanned code r l A → Decoding code l
-    by (bad f) e s = let x : r < length code = s.1 in absurd (omega arith)
+    by : (A : Answer Refusal (List (Site Ins))) → decode_from (length code) code 0 ≡ A → Scanned code (Ok tt) l A → Decoding code l
+    by (bad f) e s = let z : ◌≡◌ {A = Result ⊤ FaultAt} (Ok tt) (Err s.0) = s.1 in absurd (cc)
     by (ok all) e s = record { sites = all; is = e; marks = s.1; sizes = s.2 }
 
 pub decoding_read : (code l : List ℕ) → Decoding code l → Reading code l 0
@@ -429,9 +426,8 @@ module _ (M : Module) (m : Method) (code : List ℕ) (all : List (Site Ins)) (e 
   unfolding ◌>>=◌
   method_decodes = method_is M m code e ∙ rw d refl
 
-  pub method_told : (a b : ℕ) → Tells a b (onward M m all all (nothing (length code))) → Tells a b (check_method M m)
-  method_told a b t = rw method_decodes t
+  pub method_told : (r : Result ⊤ FaultAt) → Tells r (onward M m all all (nothing (length code))) → Tells r (check_method M m)
+  method_told r t = rw method_decodes t
 
-  pub method_passes : (n : ℕ) (found tops belows heights : List ℕ) → Passing (onward M m all all (nothing (length code))) n found tops belows heights
-      → Passing (check_method M m) n found tops belows heights
-  method_passes n found tops belows heights p = rw method_decodes p
+  pub method_passes : (n : ℕ) (found : List ℕ) (P : Pool) → Passing (onward M m all all (nothing (length code))) n found P → Passing (check_method M m) n found P
+  method_passes n found P p = rw method_decodes p

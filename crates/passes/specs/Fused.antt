@@ -1,5 +1,5 @@
 -- One pass for operands and shapes.
-use Rattle.std.specs.Prelude.{ℕ, ◌+◌, ◌≤◌, ◌<◌, ◌≡◌, true, List, length, get_or, replicate}
+use Rattle.std.specs.Prelude.{ℕ, ◌+◌, ◌≤◌, ◌<◌, ◌≡◌, true, List, length, get_or, replicate, Result, Ok, Err, ⊤}
 use Rattle.std.proofs.Math.Option.{none}
 use Rattle.model.specs.Answer.{Answer, bad, ok, ◌>>=◌}
 use Rattle.model.specs.Tables.{Method, Module}
@@ -7,22 +7,29 @@ use Rattle.model.specs.Loading.{Refusal, refusal}
 use Rattle.model.specs.Code.{Ins}
 use Rattle.model.specs.Check.{Shapes, Site, starts, find_operands, visits, decode_from}
 use Rattle.code.specs.Insn.{size_at}
-use Rattle.shapes.specs.Pool.{pool, Fine}
+use Rattle.shapes.specs.Pool.{Pool, Fine}
+use Rattle.visits.specs.declared.fault.FaultKind.TheVariants.{Operand}
+use Rattle.visits.specs.Faults.{number}
 use Rattle.visits.specs.Found.{Starts, Kept}
+use Rattle.passes.specs.declared.pass.FaultAt.{FaultAt}
 
 -- operands from here on, then shapes from here on
 unfoldable pub onward : Module → Method → List (Site Ins) → List (Site Ins) → Shapes → Answer Refusal Shapes
 onward M m all l F = find_operands M m all l >>= λ k. visits M m F k
 
--- the number and offset of a method's first fault; number 0 where it passes
-unfoldable pub Tells : ℕ → ℕ → Answer Refusal Shapes → Type 0
-Tells number offset (bad f) = (refusal number offset ≡ f) × (10 < number) × (number < 18)
-Tells number offset (ok F) = number ≡ 0
+-- a fault as the model says it
+abbrev pub refusal_of : FaultAt → Refusal
+refusal_of x = refusal (number x.kind) x.offset
 
--- an operand fault at an offset, or none and the code's length
-unfoldable pub Late : {A : Type 0} → ℕ → ℕ → ℕ → ℕ → Answer Refusal A → Type 0
-Late number offset n o (bad f) = (refusal number offset ≡ f) × (number ≡ 12)
-Late number offset n o (ok a) = (number ≡ n) × (offset ≡ o)
+-- a method's first fault and its offset, or none
+unfoldable pub Tells : Result ⊤ FaultAt → Answer Refusal Shapes → Type 0
+Tells r (bad f) = (x : FaultAt) × (r ≡ Err x) × (refusal_of x ≡ f)
+Tells r (ok F) = r ≡ Ok tt
+
+-- an operand fault, or the fault that was there
+unfoldable pub Late : {A : Type 0} → FaultAt → FaultAt → Answer Refusal A → Type 0
+Late x was (bad f) = (refusal_of x ≡ f) × (x.kind ≡ Operand)
+Late x was (ok a) = x ≡ was
 
 -- the first n of a list are 0
 pub record Cleared (n : ℕ) (l k : List ℕ) : Type 0 where
@@ -33,10 +40,10 @@ pub record Cleared (n : ℕ) (l k : List ℕ) : Type 0 where
 abbrev pub Sizes : List ℕ → List (Site Ins) → List ℕ → Type 0
 Sizes code all l = (o : ℕ) → o < length code → starts all o ≡ true → (get_or l o 0 ≡ size_at code o) × (0 < get_or l o 0)
 
--- where decoding fails, or the code's length, every start marked and every length kept
-unfoldable pub Scanned : List ℕ → ℕ → List ℕ → Answer Refusal (List (Site Ins)) → Type 0
-Scanned code r l (bad f) = (refusal 11 r ≡ f) × (r < length code)
-Scanned code r l (ok all) = (r ≡ length code) × Starts all (length code) l × Sizes code all l
+-- where decoding fails, or every start marked and every length kept
+unfoldable pub Scanned : List ℕ → Result ⊤ FaultAt → List ℕ → Answer Refusal (List (Site Ins)) → Type 0
+Scanned code r l (bad f) = (x : FaultAt) × (r ≡ Err x) × (refusal_of x ≡ f)
+Scanned code r l (ok all) = (r ≡ Ok tt) × Starts all (length code) l × Sizes code all l
 
 -- what is decoded from an offset on
 pub record Rest (code : List ℕ) (at : ℕ) (left : List (Site Ins)) : Type 0 where
@@ -54,15 +61,9 @@ pub record Reading (code l : List ℕ) (at : ℕ) : Type 0 where
 unfoldable pub nothing : ℕ → Shapes
 nothing n = replicate n none
 
--- the arrays are ready for a method
-pub record Ready (found tops belows heights : List ℕ) : Type 0 where
-  pub found_size : length found ≡ 1024
-  pub fine : Fine (pool tops belows heights 2)
-
 -- what a method that passes leaves: the shapes found
-pub record Passing (A : Answer Refusal Shapes) (n : ℕ) (found tops belows heights : List ℕ) : Type 0 where
+pub record Passing (A : Answer Refusal Shapes) (n : ℕ) (found : List ℕ) (P : Pool) : Type 0 where
   pub shapes : Shapes
   pub is : A ≡ ok shapes
-  pub made : ℕ
-  pub fine : Fine (pool tops belows heights made)
-  pub kept : Kept (pool tops belows heights made) n shapes found
+  pub fine : Fine P
+  pub kept : Kept P n shapes found

@@ -23,6 +23,9 @@ use Rattle.shapes.specs.Pool.{Pool, Shows, Fine, Agrees, Takes}
 use Rattle.check_operands.specs.Groups.{group_of, jump_by, target_by, call_by, field_by, plain_by, ins_by}
 use Rattle.visits.specs.Found.{Kept, Went, WentBy, Lands, landing, goes_on, jumped}
 use Rattle.visits.specs.Visits.{act_of, Visits}
+use Rattle.std.specs.Prelude.{Result, ⊤}
+use Rattle.visits.specs.declared.fault.FaultKind.{FaultKind}
+use Rattle.visits.specs.Faults.{number_in}
 use Rattle.visits.proofs.Arrivals.{failed}
 use Rattle.visits.proofs.Alike.{ins_for, act_for, operands_for, effect_for, falls_for, targets_for, group_law}
 
@@ -380,3 +383,17 @@ quiet_refused M m all i g b e h t =
     acts false q =
         quiet_acts M m all true (ins_by g i.op i.operand 0)
         (calm_quiet M m true (ins_by g i.op i.operand 0) (step_calm g i.op i.operand 0 h (eqb-false g 3 q)))
+
+-- a fault by its number
+pub by_number : (M : Module) (m : Method) (all : List (Site Ins)) (F : Shapes) (o : ℕ) (i : Insn) (n v : ℕ) (l : List ℕ) (Q : Pool) (r : Result ⊤ FaultKind)
+    → (v ≡ 0 → number_in r ≡ v) → (11 < v → v < 18 → number_in r ≡ v) → Visits M m all F o i n v l Q → Visits M m all F o i n (number_in r) l Q
+unfolding Visits WentBy Went
+by_number M m all F o i n v l Q r e f w = rw (same (act_of M m all (ins_of i)) w.0) w
+  where
+    same : (x : Option Act) → WentBy Q n v l (λ a. visit M m F (here o a i.next)) x → number_in r ≡ v
+    same none t = f (omega arith) (omega arith)
+    same (some a) t = by (visit M m F (here o a i.next)) t
+      where
+        by : (A : Answer ℕ Shapes) → Went Q n v l A → number_in r ≡ v
+        by (bad k) t = let z : v ≡ k = t.0 in let x : 12 < k = t.1 in let y : k < 18 = t.2 in f (omega arith) (omega arith)
+        by (ok G) t = e t.0

@@ -1,2 +1,4 @@
+pub mod Faults
 pub mod Found
 pub mod Visits
+pub mod Notes

@@ -9,81 +9,135 @@ ghost use Rattle.shapes.specs.Pool.{pool, Fine};
 ghost use Rattle.check_operands.specs.Groups.{groups as group_table};
 ghost use Rattle.check_operands.specs.Held.{Held};
 ghost use Rattle.visits.specs.Found.{Starts, Kept};
+ghost use Rattle.visits.specs.Faults.{number_in};
+ghost use Rattle.visits.specs.Notes.{seen};
 ghost use Rattle.visits.specs.Visits.{act_of, Visits};
 
-use super::visit::{Visited, arrived, lands, shape_at, visit_branch};
+use super::fault::FaultKind;
+use super::notes::{Body, Notes};
+use super::tables::Tables;
+use super::visit::{arrived, lands, shape_at, visit_branch};
 use check_operands::group::{BR, CALL, CASTS, LDSFLD, group};
 use check_operands::operand::{
     INSTANCE, ONE_FOR_ALL, class_row, field_row, method_row, undeclared,
 };
 use check_operands::step::{plain, step};
 use code::insn::Insn;
-use loaded::Counts;
 use loaded::columns::{METHOD, RETURN};
+use loaded::{Counts, Loaded};
+use shapes::numbers::{FALLS_PAST, OTHER_SHAPE, TOO_FEW, TOO_MANY, WRONG_TYPE};
 
 // One instruction.
 pub fn visit(
-    groups: &[u8; 256],
-    counts: Counts,
-    parents: &[u8; 33],
-    fields: &[u8; 516],
-    methods: &[u8; 4128],
-    starts: &[u8; 1024],
-    tops: &mut [u8; 2048],
-    belows: &mut [u16; 2048],
-    heights: &mut [u8; 2048],
-    found: &mut [u16; 1024],
-    made: usize,
-    row: usize,
-    max: u8,
-    size: usize,
+    loaded: &Loaded,
+    tables: &Tables,
+    body: Body,
+    notes: &mut Notes,
     at: usize,
     i: Insn,
-) -> Visited
-    requires made_below { made < 2048 }
-    requires row_below { row < 129 }
-    requires at_below { at < size }
-    requires size_at_most { size ≤ 1024 }
-    ensures made_at_most { result.made ≤ made + 1 }
-    ensures visits { ((M : Module) (m : Method) (all : List (Site Ins)) (F : Shapes) → groups.now ≡ group_table →
-        Held M m counts row max parents.now fields.now methods.now → length m.code ≡ size →
-        Starts all size starts.now → Fine (pool tops.old belows.old heights.old made) →
-        Kept (pool tops.old belows.old heights.old made) size F found.old →
-        Visits M m all F at i size result.fault found.new (pool tops.new belows.new heights.new result.made)) }
+) -> Result<(), FaultKind>
+    requires made_below { notes.old.pool.made < 2048 }
+    requires row_below { body.row < 129 }
+    requires at_below { at < body.size }
+    requires size_at_most { body.size ≤ 1024 }
+    ensures starts_stay { notes.new.starts ≡ notes.old.starts }
+    ensures made_at_most { notes.new.pool.made ≤ notes.old.pool.made + 1 }
+    ensures visits { ((M : Module) (m : Method) (all : List (Site Ins)) (F : Shapes) →
+        Held M m loaded.now.counts body.row body.max loaded.now.parents loaded.now.fields loaded.now.methods →
+        length m.code ≡ body.size → Starts all body.size notes.old.starts →
+        Fine (seen notes.old.pool) → Kept (seen notes.old.pool) body.size F notes.old.found →
+        Visits M m all F at i body.size (number_in result) notes.new.found (seen notes.new.pool)) }
 {
-    let g = group(groups, i.op);
-    let s = shape_at(found, at);
+    let g = group(&tables.groups, i.op);
+    let s = shape_at(&mut notes.found, at);
     let op = i.op as usize;
     if g < CALL {
-        let gives = row * METHOD + RETURN;
+        let gives = body.row * METHOD + RETURN;
         let a = plain(
-            parents,
-            methods,
-            tops,
-            belows,
-            heights,
-            made,
+            &loaded.parents,
+            &loaded.methods,
+            &mut notes.pool.tops,
+            &mut notes.pool.belows,
+            &mut notes.pool.heights,
+            notes.pool.made,
             s,
-            row,
-            methods[gives],
-            max,
+            body.row,
+            loaded.methods[gives],
+            body.max,
             g,
             op,
             i.operand as usize,
         );
-        return arrived(tops, belows, heights, found, size, i, g, a);
+        let v = arrived(
+            &notes.pool.tops,
+            &notes.pool.belows,
+            &notes.pool.heights,
+            &mut notes.found,
+            body.size,
+            i,
+            g,
+            a,
+        );
+        notes.pool.made = v.made;
+        return faulted(v.fault);
     }
     if g < BR {
         let a = step(
-            counts, parents, fields, methods, tops, belows, heights, made, s, max, g, i.operand,
+            loaded.counts,
+            &loaded.parents,
+            &loaded.fields,
+            &loaded.methods,
+            &mut notes.pool.tops,
+            &mut notes.pool.belows,
+            &mut notes.pool.heights,
+            notes.pool.made,
+            s,
+            body.max,
+            g,
+            i.operand,
         );
-        return arrived(tops, belows, heights, found, size, i, g, a);
+        let w = arrived(
+            &notes.pool.tops,
+            &notes.pool.belows,
+            &notes.pool.heights,
+            &mut notes.found,
+            body.size,
+            i,
+            g,
+            a,
+        );
+        notes.pool.made = w.made;
+        return faulted(w.fault);
     }
-    Visited {
-        fault: visit_branch(
-            starts, tops, belows, heights, found, made, size, s, g, op, i.next, i.operand,
-        ),
-        made,
+    faulted(visit_branch(
+        &notes.starts,
+        &notes.pool.tops,
+        &notes.pool.belows,
+        &notes.pool.heights,
+        &mut notes.found,
+        notes.pool.made,
+        body.size,
+        s,
+        g,
+        op,
+        i.next,
+        i.operand,
+    ))
+}
+
+// A fault by its number, 0 where there is none.
+fn faulted(number: u8) -> Result<(), FaultKind>
+    ensures none { number ≡ 0 → number_in result ≡ number }
+    ensures some { 11 < number → number < 18 → number_in result ≡ number }
+{
+    match number {
+        0 => Ok(()),
+        TOO_FEW => Err(FaultKind::TooFew),
+        TOO_MANY => Err(FaultKind::TooMany),
+        WRONG_TYPE => Err(FaultKind::WrongType),
+        OTHER_SHAPE => Err(FaultKind::OtherShape),
+        FALLS_PAST => Err(FaultKind::FallsPast),
+        _ => Err(FaultKind::Operand),
     }
 }
 

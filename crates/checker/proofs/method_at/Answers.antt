@@ -10,6 +10,6 @@ pub returns : goal.returns
 returns c =
     λ M m B H e R.
     let q = held_code M c.args.code.now c.args.loaded.now B H c.args.row m e ∙ sym c.part-body.ensures in
-    let t = c.method.ensures.tells M m c.args.tables.now.right_groups (held M c.args.code.now c.args.loaded.now B H c.args.row m e) q
+    let t = c.method.ensures M m (held M c.args.code.now c.args.loaded.now B H c.args.row m e) q
     (subst (λ (l : List ℕ). length l ≤ 1024) q (B.size c.args.row m e)) R in
     (t.0, λ z. passing_size (sym (ap (λ (l : List ℕ). length l) q)) (t.1 z))

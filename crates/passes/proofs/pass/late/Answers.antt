@@ -7,7 +7,7 @@ use Rattle.passes.proofs.pass.late.Goals as goal
 
 pub loop-at-init : goal.loop-at-init
 loop-at-init c =
-    (c.requires.reading, λ M m all l max ps gt H e st q. searching_start M m all l _ _ q)
+    (c.requires.reading, λ M m all l max H e st q. searching_start M m all l _ _ q)
 
 pub bounds-starts-at : goal.bounds-starts-at
 bounds-starts-at c =
@@ -33,9 +33,9 @@ returns-then-refused c =
     let the-wide = c.wide in
     let the_known = c.known-i in
     let the-refused = c.refused in
-    λ M m all l max ps gt H e st q. searching_fault M m all l start.args.code.now the-loop.at (the-loop.invariant.1 M m all l max ps gt H e st q)
+    λ M m all l max H e st q. searching_fault M m all l start.args.code.now the-loop.at (the-loop.invariant.1 M m all l max H e st q)
     the-loop-test.true _ the_known.ensures.decode_is (reading_on _ _ _ the-loop.invariant.0 the-loop-test.true _ the-wide.ensures.0 _
-    the_known.ensures.next_is) _ _ (sym c.if-refused.true ∙ the-refused.ensures M m all max ps gt H (ap length e) st)
+    the_known.ensures.next_is) _ (sym c.if-refused.true ∙ the-refused.ensures M m all max c.args.loaded.now.parents c.args.tables.now.right_groups H (ap length e) st)
 
 pub loop-at-smaller : goal.loop-at-smaller
 loop-at-smaller c =
@@ -55,14 +55,14 @@ loop-at-preserved c =
     let the-refused = c.refused in
     let w = reading_on _ _ _ the-loop.invariant.0 the-loop-test.true _ the-wide.ensures.0 _ the_known.ensures.next_is in (
       reading_next _ _ _ _ the-loop.invariant.0 the-loop-test.true the_known.ensures.decode_is w,
-      λ M m all l max ps gt H e st q. searching_next M m all l
-          start.args.code.now the-loop.at (the-loop.invariant.1 M m all l max ps gt H e st q) the-loop-test.true _ the_known.ensures.decode_is w
-          (sym c.if-refused.false ∙ the-refused.ensures M m all max ps gt H (ap length e) st),
+      λ M m all l max H e st q. searching_next M m all l
+          start.args.code.now the-loop.at (the-loop.invariant.1 M m all l max H e st q) the-loop-test.true _ the_known.ensures.decode_is w
+          (sym c.if-refused.false ∙ the-refused.ensures M m all max c.args.loaded.now.parents c.args.tables.now.right_groups H (ap length e) st),
     )
 
 pub returns : goal.returns
 returns c =
     let start = c in
     let the-loop = c.loop-at in
-    λ M m all l max ps gt H e st q. searching_end M m all l start.args.code.now the-loop.at (the-loop.invariant.1 M m all l max ps gt H e st q) _ _
+    λ M m all l max H e st q. searching_end M m all l start.args.code.now the-loop.at (the-loop.invariant.1 M m all l max H e st q) _
     c.loop-at-test.false

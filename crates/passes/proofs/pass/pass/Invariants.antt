@@ -2,7 +2,8 @@ use Rattle.passes.proofs.Loops.{Going}
 use Rattle.passes.specs.Fused.{Reading, nothing}
 use Rattle.visits.specs.Found.{Starts, Kept}
 use Rattle.check_operands.specs.Held.{Held}
-use Rattle.shapes.specs.Pool.{pool, Fine}
+use Rattle.shapes.specs.Pool.{Fine}
+use Rattle.visits.specs.Notes.{seen}
 use Rattle.model.specs.Check.{Site, decode_from}
 use Rattle.model.specs.Code.{Ins}
 use Rattle.model.specs.Tables.{Method, Module}
@@ -11,15 +12,15 @@ use lib.ListN.{length}
 use mathlib.Core.List.{List}
 use mathlib.Core.Path.{◌≡◌}
 use Prim.Native.Nat.{◌+◌, ◌-◌, ◌≤◌}
-use Rattle.check_operands.specs.Groups.{groups as group_table}
 use Rattle.passes.proofs.pass.pass.Given as goal
 
 abbrev pub invariant-loop-at : goal.invariant-loop-at
 invariant-loop-at l =
-    (l.made ≤ l.at + 2) × Reading l.code l.starts l.at × ((M : Module) (m : Method) (all : List (Site Ins)) → l.groups ≡ group_table
-    → Held M m l.counts l.row l.max l.parents l.fields l.methods → m.code ≡ l.code → Starts all (length l.code) l.starts → decode_from (length l.code) l.code 0 ≡ ok all → Fine
-    (pool l.initial.tops l.initial.belows l.initial.heights 2) → Kept (pool l.initial.tops l.initial.belows l.initial.heights 2) (length l.code) (nothing (length l.code)) l.initial.found → Going M m all l.code
-    (pool l.tops l.belows l.heights l.made) l.found l.at)
+    (l.notes.pool.made ≤ l.at + 2) × Reading l.code l.notes.starts l.at × ((M : Module) (m : Method) (all : List (Site Ins))
+    → Held M m l.loaded.counts l.row l.max l.loaded.parents l.loaded.fields l.loaded.methods → m.code ≡ l.code
+    → Starts all (length l.code) l.initial.notes.starts → decode_from (length l.code) l.code 0 ≡ ok all → Fine (seen l.initial.notes.pool)
+    → Kept (seen l.initial.notes.pool) (length l.code) (nothing (length l.code)) l.initial.notes.found
+    → Starts all (length l.code) l.notes.starts × Going M m all l.code (seen l.notes.pool) l.notes.found l.at)
 
 abbrev pub decreases-loop-at : goal.decreases-loop-at
 decreases-loop-at l =

@@ -13,17 +13,9 @@ pub size_at-size-requires : goal.size_at-size-requires
 size_at-size-requires c = record { lengths = c.requires.lengths; at_inside = c.loop-at-test.true; length_at_most = c.requires.length_at_most }
 
 pub returns-then-size-eq0 : goal.returns-then-size-eq0
-returns-then-size-eq0 c = let start = c in
-    let the-shared-slice-known = c.shared_slice_known-1 in
-    let the-loop = c.loop-at in
-    let the-loop-test = c.loop-at-test in
-    let the-size-at = c.size_at-size in
-    record {
-      starts_len = the-loop.invariant.size ∙ sym start.requires.starts_len;
-      scanned = scanning_stop _ _ _ the-loop.invariant the-loop-test.true
-          (no_size start.args.code.now the-loop.at (omega (arith, the-shared-slice-known.given the-loop.at))
-          (sym the-size-at.ensures.result_is ∙ c.if-size-eq0.true));
-    }
+returns-then-size-eq0 c =
+    scanning_stop _ _ _ c.loop-at.invariant c.loop-at-test.true
+    (no_size c.args.code.now c.loop-at.at (omega (arith, c.shared_slice_known-1.given c.loop-at.at)) (sym c.size_at-size.ensures.result_is ∙ c.if-size-eq0.true))
 
 pub overflow_cast-starts : goal.overflow_cast-starts
 overflow_cast-starts c =
@@ -46,4 +38,4 @@ loop-at-preserved c =
     scanning_next _ _ _ _ the-loop-test.true start.requires.length_at_most the-size-at.ensures.result_is (nonzero _ c.if-size-eq0.false) the-loop.invariant
 
 pub returns : goal.returns
-returns c = record { starts_len = c.loop-at.invariant.size ∙ sym c.requires.starts_len; scanned = scanning_end _ _ _ c.loop-at.invariant c.loop-at-test.false }
+returns c = scanning_end _ _ _ c.loop-at.invariant c.loop-at-test.false

@@ -1,0 +1,12 @@
+-- What the check notes of a method.
+use Rattle.std.specs.Prelude.{ℕ, ◌≡◌, List, length}
+use Rattle.shapes.specs.Pool.{Pool, pool, Fine}
+use Rattle.visits.specs.declared.notes.Pool.{Pool as Noted}
+
+abbrev pub seen : Noted → Pool
+seen p = pool p.tops p.belows p.heights p.made
+
+-- the notes are ready for a method
+pub record Ready (found : List ℕ) (P : Pool) : Type 0 where
+  pub found_size : length found ≡ 1024
+  pub fine : Fine (pool P.tops P.belows P.heights 2)
