@@ -6,15 +6,19 @@ use mathlib.Core.Option.{some}
 use mathlib.Core.List.{List}
 use native.Mathlib.Omega.{arith}
 use lib.ListN.{length, get_or}
+use Rattle.std.specs.Prelude.{Result, Ok, Err}
 use Rattle.model.specs.Answer.{Answer, ◌>>=◌, guard, pick}
 use Rattle.model.specs.Code.{Ins, ldfld, stfld, ldsfld, stsfld, castclass, isinst, long, ◌is◌, op, un, const, branches, loads, operators, objects, instructions, form_of, size_of}
 use Rattle.state.specs.declared.Stay.{Stay}
 use Rattle.state.specs.View.{Work}
 use Rattle.state.specs.Work.{Tables, Went, is_token, is_field, ldfld_row, stfld_row, ldsfld_row, stsfld_row, cast_w, act_w, acts_w}
 use Rattle.state.specs.Meets.{Meets}
+use Rattle.state.specs.declared.ending.Ending.{Ending}
+use Rattle.state.specs.declared.ending.Ending.TheVariants.{Undecodable, BadOperand}
+use Rattle.state.specs.Steps.{number}
 use Rattle.in_frame.proofs.Answers.{stops}
 use Rattle.in_frame.proofs.Acting.{acts_cut, acts_long}
-use Rattle.fields.specs.Named.{token_at, Names, cut, wrong, right, NamesField, NamesClass}
+use Rattle.fields.specs.Named.{token_at, Names, cut, wrong, right, NamesField, NamesRow}
 use Rattle.fields.specs.Members.{Reaches, LendsFields}
 use Rattle.fields.proofs.Casting.{missed, cast_row}
 
@@ -23,20 +27,22 @@ module _ (P : Tables) (part : List ℕ) (y : Stay) (c : Work) {k : ℕ} (f : ℕ
     (inside : c.regs.at < length part) (byte : get_or part c.regs.at 0 ≡ k) where
   -- names is the test of the token, and by what follows it, by the row
   module _ (names : ℕ → Bool) (by : ℕ → ℕ → Answer ℕ Went)
-      (acts : (t next : ℕ) → act_w P (length part) y c (f t) next ≡ (guard (names t) 42 >>= λ _. by (t % 0x1000000) next)) {n r : ℕ} where
-    refuses : {o : ℕ} → Names part c.regs.at (names (token_at part c.regs.at)) n r → (n ≡ 0 → ⊥) → Meets n o c c (acts_w P part y c)
+      (acts : (t next : ℕ) → act_w P (length part) y c (f t) next ≡ (guard (names t) 42 >>= λ _. by (t % 0x1000000) next)) {x : Result ℕ Ending} where
+    refuses : {e : Ending} {o : ℕ} → Names part c.regs.at (names (token_at part c.regs.at)) x → x ≡ Err e → Meets (number e) o c c (acts_w P part y c)
     unfolding guard ◌>>=◌ size_of
-    refuses (cut e h) z = rw e (acts_cut P part y c inside byte few (long f) form h)
-    refuses (wrong e h w) z =
-        rw e (stops refl refl (acts_long P part y c inside byte few f form h ∙ (acts (token_at part c.regs.at) (c.regs.at + 5) ∙ rw w refl)))
-    refuses (right e h w q) z = absurd (z e)
+    refuses {e} (cut p h) z = let same : e ≡ Undecodable = cc in rw same (acts_cut P part y c inside byte few (long f) form h)
+    refuses {e} (wrong p h w) z =
+        let same : e ≡ BadOperand = cc in
+        rw same (stops refl refl (acts_long P part y c inside byte few f form h ∙ (acts (token_at part c.regs.at) (c.regs.at + 5) ∙ rw w refl)))
+    refuses (right p h w q) z = cc
 
-    does : Names part c.regs.at (names (token_at part c.regs.at)) n r → n ≡ 0 → acts_w P part y c ≡ by r (c.regs.at + 5)
+    does : {r : ℕ} → Names part c.regs.at (names (token_at part c.regs.at)) x → x ≡ Ok r → acts_w P part y c ≡ by r (c.regs.at + 5)
     unfolding guard ◌>>=◌
-    does (cut e h) z = absurd (omega arith)
-    does (wrong e h w) z = absurd (omega arith)
-    does (right e h w q) z =
-        acts_long P part y c inside byte few f form h ∙ (acts (token_at part c.regs.at) (c.regs.at + 5) ∙ rw (w, ← q) refl)
+    does (cut p h) z = cc
+    does (wrong p h w) z = cc
+    does {r} (right {r = k} p h w q) z =
+        let same : k ≡ r = cc in
+        acts_long P part y c inside byte few f form h ∙ (acts (token_at part c.regs.at) (c.regs.at + 5) ∙ rw (w, ← q, same) refl)
 
 -- ---- The forms of the opcodes
 
@@ -96,17 +102,17 @@ module _ (P : Tables) (part : List ℕ) (y : Stay) (c : Work) {count : ℕ} {fie
   acts_stsfld t next = rw (l.same_count, l.same_fields, l.same_initialisers, l.same_ancestors) refl
 
   -- stfld, or ldfld
-  pub stfld_refused : {n r : ℕ} → get_or part c.regs.at 0 ≡ 0x7D → NamesField part c.regs.at fields count 0 n r
-      → {o : ℕ} → (n ≡ 0 → ⊥) → Meets n o c c (acts_w P part y c)
+  pub stfld_refused : {x : Result ℕ Ending} {e : Ending} → get_or part c.regs.at 0 ≡ 0x7D → NamesField part c.regs.at fields count 0 x
+      → {o : ℕ} → x ≡ Err e → Meets (number e) o c c (acts_w P part y c)
   stfld_refused b m z =
       refuses P part y c stfld (omega arith) stfld_form inside b (is_field count fields 0) (stfld_row fields initialisers ancestors y c) acts_stfld m.row z
 
-  pub ldfld_refused : {n r : ℕ} → get_or part c.regs.at 0 ≡ 0x7B → NamesField part c.regs.at fields count 0 n r
-      → {o : ℕ} → (n ≡ 0 → ⊥) → Meets n o c c (acts_w P part y c)
+  pub ldfld_refused : {x : Result ℕ Ending} {e : Ending} → get_or part c.regs.at 0 ≡ 0x7B → NamesField part c.regs.at fields count 0 x
+      → {o : ℕ} → x ≡ Err e → Meets (number e) o c c (acts_w P part y c)
   ldfld_refused b m z =
       refuses P part y c ldfld (omega arith) ldfld_form inside b (is_field count fields 0) (ldfld_row fields initialisers ancestors y c) acts_ldfld m.row z
 
-  module _ {n r : ℕ} (m : NamesField part c.regs.at fields count 0 n r) (z : n ≡ 0) where
+  module _ {x : Result ℕ Ending} {r : ℕ} (m : NamesField part c.regs.at fields count 0 x) (z : x ≡ Ok r) where
     pub ldfld_does : get_or part c.regs.at 0 ≡ 0x7B → acts_w P part y c ≡ ldfld_row fields initialisers ancestors y c r (c.regs.at + 5)
     ldfld_does byte =
         does P part y c ldfld (omega arith) ldfld_form inside byte (is_field count fields 0) (ldfld_row fields initialisers ancestors y c) acts_ldfld m.row z
@@ -116,17 +122,17 @@ module _ (P : Tables) (part : List ℕ) (y : Stay) (c : Work) {count : ℕ} {fie
         does P part y c stfld (omega arith) stfld_form inside byte (is_field count fields 0) (stfld_row fields initialisers ancestors y c) acts_stfld m.row z
 
   -- stsfld, or ldsfld
-  pub stsfld_refused : {n r : ℕ} → get_or part c.regs.at 0 ≡ 0x80 → NamesField part c.regs.at fields count 1 n r
-      → {o : ℕ} → (n ≡ 0 → ⊥) → Meets n o c c (acts_w P part y c)
+  pub stsfld_refused : {x : Result ℕ Ending} {e : Ending} → get_or part c.regs.at 0 ≡ 0x80 → NamesField part c.regs.at fields count 1 x
+      → {o : ℕ} → x ≡ Err e → Meets (number e) o c c (acts_w P part y c)
   stsfld_refused b m z =
       refuses P part y c stsfld (omega arith) stsfld_form inside b (is_field count fields 1) (stsfld_row fields initialisers ancestors y c) acts_stsfld m.row z
 
-  pub ldsfld_refused : {n r : ℕ} → get_or part c.regs.at 0 ≡ 0x7E → NamesField part c.regs.at fields count 1 n r
-      → {o : ℕ} → (n ≡ 0 → ⊥) → Meets n o c c (acts_w P part y c)
+  pub ldsfld_refused : {x : Result ℕ Ending} {e : Ending} → get_or part c.regs.at 0 ≡ 0x7E → NamesField part c.regs.at fields count 1 x
+      → {o : ℕ} → x ≡ Err e → Meets (number e) o c c (acts_w P part y c)
   ldsfld_refused b m z =
       refuses P part y c ldsfld (omega arith) ldsfld_form inside b (is_field count fields 1) (ldsfld_row fields initialisers y c) acts_ldsfld m.row z
 
-  module _ {n r : ℕ} (m : NamesField part c.regs.at fields count 1 n r) (z : n ≡ 0) where
+  module _ {x : Result ℕ Ending} {r : ℕ} (m : NamesField part c.regs.at fields count 1 x) (z : x ≡ Ok r) where
     pub ldsfld_does : get_or part c.regs.at 0 ≡ 0x7E → acts_w P part y c ≡ ldsfld_row fields initialisers y c r (c.regs.at + 5)
     ldsfld_does byte =
         does P part y c ldsfld (omega arith) ldsfld_form inside byte (is_field count fields 1) (ldsfld_row fields initialisers y c) acts_ldsfld m.row z
@@ -150,15 +156,15 @@ module _ (P : Tables) (part : List ℕ) (y : Stay) (c : Work) {count : ℕ} {anc
   acts_cast true t next = rw (same_count, same_ancestors) refl
   acts_cast false t next = rw (same_count, same_ancestors) refl
 
-  pub cast_refused : {n r : ℕ} (b : Bool) → get_or part c.regs.at 0 ≡ pick b 0x75 0x74 → NamesClass part c.regs.at count n r → {o : ℕ} → (n ≡ 0 → ⊥)
-      → Meets n o c c (acts_w P part y c)
+  pub cast_refused : {x : Result ℕ Ending} {e : Ending} (b : Bool) → get_or part c.regs.at 0 ≡ pick b 0x75 0x74 → NamesRow part c.regs.at 2 count x → {o : ℕ} → x ≡ Err e
+      → Meets (number e) o c c (acts_w P part y c)
   unfolding pick
   cast_refused true e m z = refuses P part y c isinst (omega arith) isinst_form inside e (is_token 2 count) (cast_row ancestors y c true) (acts_cast true)
       m.row z
   cast_refused false e m z = refuses P part y c castclass (omega arith) castclass_form inside e (is_token 2 count) (cast_row ancestors y c false)
       (acts_cast false) m.row z
 
-  pub cast_does : {n r : ℕ} (b : Bool) → get_or part c.regs.at 0 ≡ pick b 0x75 0x74 → NamesClass part c.regs.at count n r → n ≡ 0 → acts_w P part y c
+  pub cast_does : {x : Result ℕ Ending} {r : ℕ} (b : Bool) → get_or part c.regs.at 0 ≡ pick b 0x75 0x74 → NamesRow part c.regs.at 2 count x → x ≡ Ok r → acts_w P part y c
       ≡ cast_row ancestors y c b r (c.regs.at + 5)
   unfolding pick
   cast_does true e m z = does P part y c isinst (omega arith) isinst_form inside e (is_token 2 count) (cast_row ancestors y c true) (acts_cast true) m.row z

@@ -7,11 +7,12 @@ use native.Mathlib.Omega.{arith}
 use lib.ListN.{get_or, set}
 use lib.Dec.{eqb}
 use borrow.Author.Tests.{lt-ltb, le-ltb, eq-eqb, ne_eqb, not-true, not-false}
+use Rattle.std.specs.Prelude.{Option, Some, None}
 use Rattle.model.specs.Answer.{Answer, ok, ◌>>=◌, guard}
 use Rattle.loaded.specs.Holds.{field_cell}
 use Rattle.state.specs.declared.Stay.{Stay}
 use Rattle.state.specs.View.{Work, kind_of_byte}
-use Rattle.state.specs.Work.{Went, runs, with_regs, with_cells, with_statics, with_marks, with_heap, moved_to, sp_of, kind_at, bits_at, goto, put, place_of, heap_cell, refers_w, fits_w, starting_w, ldfld_row, stfld_row, ldsfld_row, stsfld_row}
+use Rattle.state.specs.Work.{Went, runs, with_cells, with_statics, with_marks, with_heap, sp_of, kind_at, bits_at, goto, put, place_of, heap_cell, refers_w, fits_w, starting_w, ldfld_row, stfld_row, ldsfld_row, stsfld_row}
 use Rattle.state.specs.Meets.{Meets}
 use Rattle.in_frame.proofs.Answers.{stops, goes, none_there, all_there}
 use Rattle.fields.specs.Members.{Starts}
@@ -41,7 +42,7 @@ abbrev stores_static : List ℕ → Work → ℕ → ℕ → List ℕ → Answer
 stores_static fields c r next marks =
     ok (runs (with_marks (with_statics (goto c next (sp_of c - 1)) (set c.statics (field_cell fields r 3) (bits_at c (sp_of c - 1)))) marks))
 
--- ---- The answers: w is the class, e the initialiser that comes first, j the kind and x the slot of the field
+-- ---- The answers: w is the class, e the initialiser that comes first, if any, j the kind and x the slot of the field
 
 module _ (fields initialisers ancestors : List ℕ) (y : Stay) (c : Work) (r next : ℕ) where
   pub ldfld_none : {o : ℕ} → sp_of c ≤ y.floor → Meets 43 o c c (ldfld_row fields initialisers ancestors y c r next)
@@ -58,15 +59,15 @@ module _ (fields initialisers ancestors : List ℕ) (y : Stay) (c : Work) (r nex
       unfolding ldfld_row guard ◌>>=◌
       ldfld_other f = stops refl refl (simp (all_there y c 1 (omega arith), eq-eqb _ _ k, ← q, not-true t f))
 
-      module _ (f : not t ≡ false) {w e : ℕ} (v : w ≡ field_cell fields r 0) (s : Starts initialisers c.marks w e) where
+      module _ (f : not t ≡ false) {w : ℕ} {e : Option ℕ} (v : w ≡ field_cell fields r 0) (s : Starts initialisers c.marks w e) where
         ldfld_starts : ldfld_row fields initialisers ancestors y c r next ≡ starting_w initialisers c w (loads fields c r next)
         unfolding ldfld_row guard ◌>>=◌
         ldfld_starts = simp (all_there y c 1 (omega arith), eq-eqb _ _ k, ← q, not-false t f, v)
 
-        pub ldfld_waits : (e ≡ 0 → ⊥) → Meets 2 e c c (ldfld_row fields initialisers ancestors y c r next)
+        pub ldfld_waits : {first : ℕ} → e ≡ Some first → Meets 2 first c c (ldfld_row fields initialisers ancestors y c r next)
         ldfld_waits n = comes_first initialisers c (loads fields c r next) s ldfld_starts n
 
-        module _ (z : e ≡ 0) where
+        module _ (z : e ≡ None) where
           pub ldfld_null : {o : ℕ} → bits_at c (sp_of c - 1) ≡ 0 → Meets 34 o c c (ldfld_row fields initialisers ancestors y c r next)
           unfolding guard ◌>>=◌
           ldfld_null b = stops refl refl (started initialisers c (loads fields c r next) s ldfld_starts z ∙ simp (eq-eqb _ _ b))
@@ -100,15 +101,15 @@ module _ (fields initialisers ancestors : List ℕ) (y : Stay) (c : Work) (r nex
         unfolding stfld_row guard ◌>>=◌
         stfld_unfit g = stops refl refl (simp (all_there y c 2 two, eq-eqb _ _ k, ← q, not-false t f, ← p, not-true u g))
 
-        module _ (g : not u ≡ false) {w e : ℕ} (v : w ≡ field_cell fields r 0) (s : Starts initialisers c.marks w e) where
+        module _ (g : not u ≡ false) {w : ℕ} {e : Option ℕ} (v : w ≡ field_cell fields r 0) (s : Starts initialisers c.marks w e) where
           stfld_starts : stfld_row fields initialisers ancestors y c r next ≡ starting_w initialisers c w (stores fields c r next)
           unfolding stfld_row guard ◌>>=◌
           stfld_starts = simp (all_there y c 2 two, eq-eqb _ _ k, ← q, not-false t f, ← p, not-false u g, v)
 
-          pub stfld_waits : (e ≡ 0 → ⊥) → Meets 2 e c c (stfld_row fields initialisers ancestors y c r next)
+          pub stfld_waits : {first : ℕ} → e ≡ Some first → Meets 2 first c c (stfld_row fields initialisers ancestors y c r next)
           stfld_waits n = comes_first initialisers c (stores fields c r next) s stfld_starts n
 
-          module _ (z : e ≡ 0) where
+          module _ (z : e ≡ None) where
             pub stfld_null : {o : ℕ} → bits_at c (sp_of c - 2) ≡ 0 → Meets 34 o c c (stfld_row fields initialisers ancestors y c r next)
             unfolding guard ◌>>=◌
             stfld_null b = stops refl refl (started initialisers c (stores fields c r next) s stfld_starts z ∙ simp (eq-eqb _ _ b))
@@ -133,15 +134,15 @@ module _ (fields initialisers ancestors : List ℕ) (y : Stay) (c : Work) (r nex
     unfolding stsfld_row guard ◌>>=◌
     stsfld_unfit g = stops refl refl (simp (all_there y c 1 (omega arith), ← p, not-true u g))
 
-    module _ (g : not u ≡ false) {w e : ℕ} (v : w ≡ field_cell fields r 0) (s : Starts initialisers c.marks w e) where
+    module _ (g : not u ≡ false) {w : ℕ} {e : Option ℕ} (v : w ≡ field_cell fields r 0) (s : Starts initialisers c.marks w e) where
       stsfld_starts : stsfld_row fields initialisers ancestors y c r next ≡ starting_w initialisers c w (stores_static fields c r next)
       unfolding stsfld_row guard ◌>>=◌
       stsfld_starts = simp (all_there y c 1 (omega arith), ← p, not-false u g, v)
 
-      pub stsfld_waits : (e ≡ 0 → ⊥) → Meets 2 e c c (stsfld_row fields initialisers ancestors y c r next)
+      pub stsfld_waits : {first : ℕ} → e ≡ Some first → Meets 2 first c c (stsfld_row fields initialisers ancestors y c r next)
       stsfld_waits n = comes_first initialisers c (stores_static fields c r next) s stsfld_starts n
 
-      pub stsfld_goes : {o x : ℕ} → e ≡ 0 → x ≡ field_cell fields r 3
+      pub stsfld_goes : {o x : ℕ} → e ≡ None → x ≡ field_cell fields r 3
           → Meets 0 o (with_marks (with_statics (goto c next (sp_of c - 1)) (set c.statics x (bits_at c (sp_of c - 1)))) (set c.marks w 1)) c
           (stsfld_row fields initialisers ancestors y c r next)
       stsfld_goes z h = goes (started initialisers c (stores_static fields c r next) s stsfld_starts z ∙ simp h)
@@ -151,14 +152,14 @@ module _ (fields initialisers : List ℕ) (y : Stay) (c : Work) (r next : ℕ) w
   unfolding ldsfld_row guard ◌>>=◌
   ldsfld_full h = stops refl refl (simp (le-ltb _ _ h))
 
-  module _ (room : sp_of c < y.limit) {w e : ℕ} (v : w ≡ field_cell fields r 0) (s : Starts initialisers c.marks w e) where
+  module _ (room : sp_of c < y.limit) {w : ℕ} {e : Option ℕ} (v : w ≡ field_cell fields r 0) (s : Starts initialisers c.marks w e) where
     ldsfld_starts : ldsfld_row fields initialisers y c r next ≡ starting_w initialisers c w (loads_static fields c r next)
     unfolding ldsfld_row guard ◌>>=◌
     ldsfld_starts = simp (lt-ltb _ _ room, v)
 
-    pub ldsfld_waits : (e ≡ 0 → ⊥) → Meets 2 e c c (ldsfld_row fields initialisers y c r next)
+    pub ldsfld_waits : {first : ℕ} → e ≡ Some first → Meets 2 first c c (ldsfld_row fields initialisers y c r next)
     ldsfld_waits n = comes_first initialisers c (loads_static fields c r next) s ldsfld_starts n
 
-    pub ldsfld_goes : {o j x : ℕ} → e ≡ 0 → j ≡ kind_of_byte (field_cell fields r 2) → x ≡ field_cell fields r 3
+    pub ldsfld_goes : {o j x : ℕ} → e ≡ None → j ≡ kind_of_byte (field_cell fields r 2) → x ≡ field_cell fields r 3
         → Meets 0 o (with_marks (put c next (sp_of c) j (get_or c.statics x 0)) (set c.marks w 1)) c (ldsfld_row fields initialisers y c r next)
     ldsfld_goes z g h = goes (started initialisers c (loads_static fields c r next) s ldsfld_starts z ∙ simp (g, h))

@@ -1,6 +1,6 @@
 -- What fields and casts change, and what they ask of registers and tables.
-use Rattle.std.specs.Prelude.{ℕ, ◌≤◌, ◌<◌, ◌≡◌, List, set, eqb}
-use Rattle.model.specs.Answer.{Answer, ok, pick}
+use Rattle.std.specs.Prelude.{ℕ, ◌≤◌, ◌<◌, ◌≡◌, List, set, Option, Some, None}
+use Rattle.model.specs.Answer.{Answer, ok}
 use Rattle.loaded.specs.Holds.{field_cell}
 use Rattle.state.specs.declared.Stay.{Stay}
 use Rattle.state.specs.View.{Work}
@@ -34,8 +34,12 @@ pub record LendsFields (P : Tables) (count : ℕ) (fields initialisers ancestors
   pub same_initialisers : P.initialisers ≡ initialisers
   pub same_ancestors : P.ancestors ≡ ancestors
 
--- what comes before the class k is used: the initialiser e, or nothing where it is 0, and the class is marked
-pub record Starts (initialisers marks : List ℕ) (k e : ℕ) : Type 0 where
-  pub few : e ≤ 128
-  pub says : (c : Work) (then : List ℕ → Answer ℕ Went) → c.marks ≡ marks → starting_w initialisers c k then ≡ pick (eqb e 0) (then (set marks k 1))
-      (ok (waits e))
+-- the initialiser comes first, or the class is marked
+unfoldable pub first_or : Option ℕ → Answer ℕ Went → Answer ℕ Went
+first_or None marked = marked
+first_or (Some e) marked = ok (waits e)
+
+-- what comes before the class k is used: its initialiser, or nothing, and the class is marked
+pub record Starts (initialisers marks : List ℕ) (k : ℕ) (first : Option ℕ) : Type 0 where
+  pub few : (e : ℕ) → first ≡ Some e → e ≤ 128
+  pub says : (c : Work) (then : List ℕ → Answer ℕ Went) → c.marks ≡ marks → starting_w initialisers c k then ≡ first_or first (then (set marks k 1))

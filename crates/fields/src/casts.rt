@@ -7,7 +7,7 @@ ghost use Rattle.state.specs.Meets.{Stays, Topped, Placed, on_stack};
 ghost use Rattle.state.specs.Steps.{Own, ComesTo};
 
 use crate::members::SIZE;
-use crate::named::class_named;
+use crate::named::{CLASS_KIND, row_after};
 use state::ending::{Ending, ends};
 use state::fit::refers;
 use state::{Stay, Step};
@@ -35,17 +35,17 @@ pub fn cast(
         let before = on_stack c at sp cells.old kinds.now in
         ComesTo result (on_stack c at sp cells.new kinds.now) before (acts_w P part.now y before)) }
 {
-    let n = class_named(part, at, count);
-    if n.refusal != 0 {
-        return Step::Ends(n.refusal);
-    }
+    let row = match row_after(part, at, CLASS_KIND, count) {
+        Ok(row) => row,
+        Err(e) => return ends(e),
+    };
     if sp <= y.floor {
         return ends(Ending::TooFew);
     }
     if kinds[sp - 1] != 0 {
         return ends(Ending::WrongType);
     }
-    if refers(classes, ancestors, cells[sp - 1], n.row as u8) {
+    if refers(classes, ancestors, cells[sp - 1], row as u8) {
         return Step::On {
             at: at + SIZE,
             sp: sp,

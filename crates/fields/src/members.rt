@@ -59,8 +59,7 @@ fn ldfld(
         return ends(Ending::WrongType);
     }
     let class = wide(owner);
-    let first = first_due(marks, initialisers, class);
-    if first != 0 {
+    if let Some(first) = first_due(marks, initialisers, class) {
         return Step::Start { first: first };
     }
     if object == 0 {
@@ -123,8 +122,7 @@ fn stfld(
         return ends(Ending::WrongType);
     }
     let class = wide(owner);
-    let first = first_due(marks, initialisers, class);
-    if first != 0 {
+    if let Some(first) = first_due(marks, initialisers, class) {
         return Step::Start { first: first };
     }
     if object == 0 {
@@ -163,8 +161,7 @@ fn ldsfld(
         return ends(Ending::TooMany);
     }
     let class = wide(fields[r * FIELD + FIELD_OWNER]);
-    let first = first_due(marks, initialisers, class);
-    if first != 0 {
+    if let Some(first) = first_due(marks, initialisers, class) {
         return Step::Start { first: first };
     }
     marks[class] = 1;
@@ -214,8 +211,7 @@ fn stsfld(
         return ends(Ending::WrongType);
     }
     let class = wide(fields[r * FIELD + FIELD_OWNER]);
-    let first = first_due(marks, initialisers, class);
-    if first != 0 {
+    if let Some(first) = first_due(marks, initialisers, class) {
         return Step::Start { first: first };
     }
     marks[class] = 1;
@@ -253,24 +249,23 @@ pub fn object_store(
         ComesTo result (on_member c at sp cells.new kinds.new marks.new
         classes.now heap.new c.statics) before (acts_w P part.now y before)) }
 {
-    let n = field_named(part, at, fields, count, 0);
-    if n.refusal != 0 {
-        return Step::Ends(n.refusal);
+    match field_named(part, at, fields, count, 0) {
+        Ok(r) => stfld(
+            y,
+            at,
+            sp,
+            cells,
+            kinds,
+            marks,
+            classes,
+            heap,
+            fields,
+            initialisers,
+            ancestors,
+            r,
+        ),
+        Err(e) => ends(e),
     }
-    stfld(
-        y,
-        at,
-        sp,
-        cells,
-        kinds,
-        marks,
-        classes,
-        heap,
-        fields,
-        initialisers,
-        ancestors,
-        n.row,
-    )
 }
 
 // ldfld.
@@ -300,24 +295,23 @@ pub fn object_load(
         ComesTo result (on_member c at sp cells.new kinds.new marks.new
         classes.now heap.new c.statics) before (acts_w P part.now y before)) }
 {
-    let n = field_named(part, at, fields, count, 0);
-    if n.refusal != 0 {
-        return Step::Ends(n.refusal);
+    match field_named(part, at, fields, count, 0) {
+        Ok(r) => ldfld(
+            y,
+            at,
+            sp,
+            cells,
+            kinds,
+            marks,
+            classes,
+            heap,
+            fields,
+            initialisers,
+            ancestors,
+            r,
+        ),
+        Err(e) => ends(e),
     }
-    ldfld(
-        y,
-        at,
-        sp,
-        cells,
-        kinds,
-        marks,
-        classes,
-        heap,
-        fields,
-        initialisers,
-        ancestors,
-        n.row,
-    )
 }
 
 // stsfld.
@@ -347,24 +341,23 @@ pub fn static_store(
         ComesTo result (on_member c at sp cells.new kinds.new marks.new
         classes.now c.heap statics.new) before (acts_w P part.now y before)) }
 {
-    let n = field_named(part, at, fields, count, 1);
-    if n.refusal != 0 {
-        return Step::Ends(n.refusal);
+    match field_named(part, at, fields, count, 1) {
+        Ok(r) => stsfld(
+            y,
+            at,
+            sp,
+            cells,
+            kinds,
+            marks,
+            classes,
+            statics,
+            fields,
+            initialisers,
+            ancestors,
+            r,
+        ),
+        Err(e) => ends(e),
     }
-    stsfld(
-        y,
-        at,
-        sp,
-        cells,
-        kinds,
-        marks,
-        classes,
-        statics,
-        fields,
-        initialisers,
-        ancestors,
-        n.row,
-    )
 }
 
 // ldsfld.
@@ -394,20 +387,19 @@ pub fn static_load(
         ComesTo result (on_member c at sp cells.new kinds.new marks.new
         classes.now c.heap statics.new) before (acts_w P part.now y before)) }
 {
-    let n = field_named(part, at, fields, count, 1);
-    if n.refusal != 0 {
-        return Step::Ends(n.refusal);
+    match field_named(part, at, fields, count, 1) {
+        Ok(r) => ldsfld(
+            y,
+            at,
+            sp,
+            cells,
+            kinds,
+            marks,
+            statics,
+            fields,
+            initialisers,
+            r,
+        ),
+        Err(e) => ends(e),
     }
-    ldsfld(
-        y,
-        at,
-        sp,
-        cells,
-        kinds,
-        marks,
-        statics,
-        fields,
-        initialisers,
-        n.row,
-    )
 }

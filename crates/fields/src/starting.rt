@@ -5,14 +5,17 @@ ghost use Rattle.fields.specs.Members.{Starts};
 
 use state::fit::wide;
 
-// The initialiser that comes before a class is used: 0 where the class is marked or has none.
-pub fn first_due(marks: &[u8; 33], initialisers: &[u8; 33], class: usize) -> usize
+// The initialiser that comes before a class is used: none where the class is marked or has none.
+pub fn first_due(marks: &[u8; 33], initialisers: &[u8; 33], class: usize) -> Option<usize>
     requires few { Few 128 initialisers.now }
     requires class_at_most { class ≤ 32 }
     ensures { Starts initialisers.now marks.now class result }
 {
     if marks[class] != 0 {
-        return 0;
+        return None;
     }
-    wide(initialisers[class])
+    if initialisers[class] == 0 {
+        return None;
+    }
+    Some(wide(initialisers[class]))
 }

@@ -15,14 +15,14 @@ returns-then-kinds-sp-ne0 c = rw c.ends-then-kinds-sp-ne0.ensures (record { own 
 pub returns-then-not-refers : goal.returns-then-not-refers
 returns-then-not-refers c = rw c.ends-then-not-refers.ensures (record { own = search rules; meets = λ s. ldfld_other _ _ _ _ _ _ _ c.if-sp-y.false c.if-kinds-sp-ne0.false c.refers.ensures (ap not c.if-not-refers.true) })
 
-pub first_due-first-requires : goal.first_due-first-requires
-first_due-first-requires c = record { few = c.requires.reaches.initialiser_few; class_at_most = omega (arith, c.requires.reaches.ranges.owner_few c.args.r, c.wide-class.ensures.0) }
+pub first_due-requires : goal.first_due-requires
+first_due-requires c = record { few = c.requires.reaches.initialiser_few; class_at_most = omega (arith, c.requires.reaches.ranges.owner_few c.args.r, c.wide-class.ensures.0) }
 
-pub returns-then-first-ne0 : goal.returns-then-first-ne0
-returns-then-first-ne0 c = record { own = search rules; meets = λ s. ldfld_waits _ _ _ _ _ _ _ c.if-sp-y.false c.if-kinds-sp-ne0.false c.refers.ensures (ap not c.if-not-refers.false) c.wide-class.ensures.0 c.first_due-first.ensures c.if-first-ne0.true }
+pub returns-in-Some : goal.returns-in-Some
+returns-in-Some c = record { own = search rules; meets = λ s. ldfld_waits _ _ _ _ _ _ _ c.if-sp-y.false c.if-kinds-sp-ne0.false c.refers.ensures (ap not c.if-not-refers.false) c.wide-class.ensures.0 c.first_due.ensures c.in-Some.is }
 
 pub returns-then-object-eq0 : goal.returns-then-object-eq0
-returns-then-object-eq0 c = rw c.ends-then-object-eq0.ensures (record { own = search rules; meets = λ s. ldfld_null _ _ _ _ _ _ _ c.if-sp-y.false c.if-kinds-sp-ne0.false c.refers.ensures (ap not c.if-not-refers.false) c.wide-class.ensures.0 c.first_due-first.ensures c.if-first-ne0.false c.if-object-eq0.true })
+returns-then-object-eq0 c = rw c.ends-then-object-eq0.ensures (record { own = search rules; meets = λ s. ldfld_null _ _ _ _ _ _ _ c.if-sp-y.false c.if-kinds-sp-ne0.false c.refers.ensures (ap not c.if-not-refers.false) c.wide-class.ensures.0 c.first_due.ensures c.in_default.is c.if-object-eq0.true })
 
 pub bounds-marks-class : goal.bounds-marks-class
 bounds-marks-class c = omega (arith, c.requires.reaches.ranges.owner_few c.args.r, c.wide-class.ensures.0)
@@ -32,4 +32,4 @@ bounds-heap-place c = omega (arith, c.requires.reaches.ranges.cell_few c.args.r 
 
 pub returns : goal.returns
 unfolding goto
-returns c = record { own = search rules; meets = λ s. ldfld_goes _ _ _ _ _ _ _ c.if-sp-y.false c.if-kinds-sp-ne0.false c.refers.ensures (ap not c.if-not-refers.false) c.wide-class.ensures.0 c.first_due-first.ensures c.if-first-ne0.false c.if-object-eq0.false c.kind_of.ensures c.wide.ensures.0 }
+returns c = record { own = search rules; meets = λ s. ldfld_goes _ _ _ _ _ _ _ c.if-sp-y.false c.if-kinds-sp-ne0.false c.refers.ensures (ap not c.if-not-refers.false) c.wide-class.ensures.0 c.first_due.ensures c.in_default.is c.if-object-eq0.false c.kind_of.ensures c.wide.ensures.0 }

@@ -3,11 +3,11 @@ use Rattle.in_frame.proofs.Answers.{instead}
 use Rattle.fields.proofs.Acting.{reaches, ldfld_refused, ldfld_does}
 use Rattle.fields.proofs.members.object_load.Goals as goal
 
-pub returns-then-n-ne0 : goal.returns-then-n-ne0
-returns-then-n-ne0 c = record { own = search rules; meets = λ P s l. ldfld_refused P _ _ _ l c.requires.at_range.0 c.requires.get_or_is c.field_named-n.ensures c.if-n-ne0.true }
+pub returns-in-Err : goal.returns-in-Err
+returns-in-Err c = rw c.ends.ensures (record { own = search rules; meets = λ P s l. ldfld_refused P _ _ _ l c.requires.at_range.0 c.requires.get_or_is c.field_named.ensures c.in-Err.is })
 
 pub ldfld-requires : goal.ldfld-requires
-ldfld-requires c = record { reaches = reaches c.requires.reaches c.field_named-n.ensures.few; field_cell_is = c.field_named-n.ensures.flagged c.if-n-ne0.false; placed = c.requires.placed }
+ldfld-requires c = record { reaches = reaches c.requires.reaches (c.field_named.ensures.few _ c.in-Ok.is); field_cell_is = c.field_named.ensures.flagged _ c.in-Ok.is; placed = c.requires.placed }
 
-pub returns : goal.returns
-returns c = record { own = c.ldfld.ensures.own; meets = λ P s l. instead (ldfld_does P _ _ _ l c.requires.at_range.0 c.field_named-n.ensures c.if-n-ne0.false c.requires.get_or_is) (c.ldfld.ensures.meets s) }
+pub returns-in-Ok : goal.returns-in-Ok
+returns-in-Ok c = record { own = c.ldfld.ensures.own; meets = λ P s l. instead (ldfld_does P _ _ _ l c.requires.at_range.0 c.field_named.ensures c.in-Ok.is c.requires.get_or_is) (c.ldfld.ensures.meets s) }

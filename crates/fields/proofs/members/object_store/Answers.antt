@@ -3,11 +3,11 @@ use Rattle.in_frame.proofs.Answers.{instead}
 use Rattle.fields.proofs.Acting.{reaches, stfld_refused, stfld_does}
 use Rattle.fields.proofs.members.object_store.Goals as goal
 
-pub returns-then-n-ne0 : goal.returns-then-n-ne0
-returns-then-n-ne0 c = record { own = search rules; meets = λ P s l. stfld_refused P _ _ _ l c.requires.at_range.0 c.requires.get_or_is c.field_named-n.ensures c.if-n-ne0.true }
+pub returns-in-Err : goal.returns-in-Err
+returns-in-Err c = rw c.ends.ensures (record { own = search rules; meets = λ P s l. stfld_refused P _ _ _ l c.requires.at_range.0 c.requires.get_or_is c.field_named.ensures c.in-Err.is })
 
 pub stfld-requires : goal.stfld-requires
-stfld-requires c = record { reaches = reaches c.requires.reaches c.field_named-n.ensures.few; field_cell_is = c.field_named-n.ensures.flagged c.if-n-ne0.false; placed = c.requires.placed }
+stfld-requires c = record { reaches = reaches c.requires.reaches (c.field_named.ensures.few _ c.in-Ok.is); field_cell_is = c.field_named.ensures.flagged _ c.in-Ok.is; placed = c.requires.placed }
 
-pub returns : goal.returns
-returns c = record { own = c.stfld.ensures.own; meets = λ P s l. instead (stfld_does P _ _ _ l c.requires.at_range.0 c.field_named-n.ensures c.if-n-ne0.false c.requires.get_or_is) (c.stfld.ensures.meets s) }
+pub returns-in-Ok : goal.returns-in-Ok
+returns-in-Ok c = record { own = c.stfld.ensures.own; meets = λ P s l. instead (stfld_does P _ _ _ l c.requires.at_range.0 c.field_named.ensures c.in-Ok.is c.requires.get_or_is) (c.stfld.ensures.meets s) }

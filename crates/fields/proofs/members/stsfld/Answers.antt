@@ -12,11 +12,11 @@ returns-then-sp-y c = rw c.ends.ensures (record { own = search rules; meets = λ
 pub returns-then-not-fits : goal.returns-then-not-fits
 returns-then-not-fits c = rw c.ends-then-not-fits.ensures (record { own = search rules; meets = λ s. stsfld_unfit _ _ _ _ _ _ _ c.if-sp-y.false c.fits.ensures (ap not c.if-not-fits.true) })
 
-pub first_due-first-requires : goal.first_due-first-requires
-first_due-first-requires c = record { few = c.requires.reaches.initialiser_few; class_at_most = omega (arith, c.requires.reaches.ranges.owner_few c.args.r, c.wide-class.ensures.0) }
+pub first_due-requires : goal.first_due-requires
+first_due-requires c = record { few = c.requires.reaches.initialiser_few; class_at_most = omega (arith, c.requires.reaches.ranges.owner_few c.args.r, c.wide-class.ensures.0) }
 
-pub returns-then-first-ne0 : goal.returns-then-first-ne0
-returns-then-first-ne0 c = record { own = search rules; meets = λ s. stsfld_waits _ _ _ _ _ _ _ c.if-sp-y.false c.fits.ensures (ap not c.if-not-fits.false) c.wide-class.ensures.0 c.first_due-first.ensures c.if-first-ne0.true }
+pub returns-in-Some : goal.returns-in-Some
+returns-in-Some c = record { own = search rules; meets = λ s. stsfld_waits _ _ _ _ _ _ _ c.if-sp-y.false c.fits.ensures (ap not c.if-not-fits.false) c.wide-class.ensures.0 c.first_due.ensures c.in-Some.is }
 
 pub bounds-marks-class : goal.bounds-marks-class
 bounds-marks-class c = omega (arith, c.requires.reaches.ranges.owner_few c.args.r, c.wide-class.ensures.0)
@@ -26,4 +26,4 @@ bounds-statics-wide c = omega (arith, c.requires.reaches.ranges.static_few c.arg
 
 pub returns : goal.returns
 unfolding goto
-returns c = record { own = search rules; meets = λ s. stsfld_goes _ _ _ _ _ _ _ c.if-sp-y.false c.fits.ensures (ap not c.if-not-fits.false) c.wide-class.ensures.0 c.first_due-first.ensures c.if-first-ne0.false c.wide.ensures.0 }
+returns c = record { own = search rules; meets = λ s. stsfld_goes _ _ _ _ _ _ _ c.if-sp-y.false c.fits.ensures (ap not c.if-not-fits.false) c.wide-class.ensures.0 c.first_due.ensures c.in_default.is c.wide.ensures.0 }
