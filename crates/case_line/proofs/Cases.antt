@@ -14,7 +14,8 @@ use Rattle.model.specs.Answer.{only_if}
 use Rattle.model.specs.Tables.{part_of}
 use Rattle.model.specs.Loading.{little}
 use Rattle.model.specs.Replay.{replay}
-use Rattle.line.specs.Append.{Appended}
+use Rattle.line.specs.Append.{appended, Appended}
+use Rattle.line.specs.declared.text.Text.{Text}
 use Rattle.line.proofs.Appending.{nothing, same}
 use Rattle.case_line.specs.Case.{Case, words, beyond, case_of, Whole, line_feed, answer_to, line_of}
 use Rattle.case_line.specs.Places.{places_by, size_after, count_after, places_of, announced_by, Found}
@@ -108,11 +109,11 @@ module _ (l : List ℕ) (p : Places) (found : Found l p) where
   no_line k out = rw (no_case l (λ z. k (z ∙ sym end_is))) (nothing out 0)
 
   -- and a case has that of its parts
-  pub whole_line : length l ≡ p.end → {tables code arguments out out' : List ℕ} {budget r : ℕ}
+  pub whole_line : length l ≡ p.end → (tables code arguments : List ℕ) (budget : ℕ)
       → tables ≡ part_of l 2 p.tables → code ≡ part_of l p.code p.size
       → arguments ≡ words p.count (drop p.arguments l) → budget ≡ little 4 (drop p.budget l)
-      → Appended out 0 (replay tables code arguments budget ++ line_feed) out' r → Appended out 0 (line_of l) out' r
+      → (x y : Text) → y ≡ appended x (replay tables code arguments budget ++ line_feed) → y ≡ appended x (line_of l)
   unfolding line_of answer_to
-  whole_line k a b c d h =
+  whole_line k tables code arguments budget a b c d x y h =
       let w : case_of l ≡ some (by l p) = whole_case l (k ∙ end_is) ∙ ap (λ (q : Places). some (by l q)) (sym found.exact) in
-      rw w (same (rw (a, b, c, d)) h)
+      rw w (same x y _ _ h (rw (a, b, c, d)))

@@ -24,36 +24,37 @@ use Rattle.faithful.proofs.Constants.{Bytes}
 use Rattle.faithful.proofs.Loads.{fine}
 use Rattle.checker.specs.Answers as Checks
 use Rattle.checker.specs.Bounded.{Bounded}
-use Rattle.line.specs.Append.{Appended}
+use Rattle.line.specs.Append.{appended}
+use Rattle.line.specs.declared.text.Text.{Text}
 use Rattle.line.specs.Values.{value_of}
-use Rattle.line.proofs.Appending.{same, then}
+use Rattle.line.proofs.Appending.{added_then, same}
 use Rattle.runner.specs.Answers.{told, refused_by, Answers}
 use Rattle.runner.specs.declared.Ended.{Ended}
 use Rattle.loitsupar.proofs.Answered.{refused, stands}
 use Rattle.loitsupar.proofs.Answered as Answered
 use Rattle.loitsupar.proofs.Bounds.{bounded}
-use Rattle.state_text.specs.Texts.{Told}
+use Rattle.state_text.specs.Texts.{Says}
 use Rattle.case_line.specs.Case.{line_feed}
 use Rattle.case_line.specs.Texts.{strike, load_part, check_part, run_part, refused_rest, loaded_rest, refuses}
 use Rattle.case_line.proofs.Outcomes.{Refused, Ran, keeps, is_refused, has_ended}
 
 -- ---- Parts from numbers with a space after each
 
-module _ (f : Fault) {n : ℕ} (e : n ≡ f.number) where
-  pub load_text_lem : (word_load ++ (decimal n ++ space)) ++ (decimal f.offset ++ space) ≡ load_part f
+module _ (f : Fault) where
+  pub load_text_lem : (word_load ++ (decimal f.number ++ space)) ++ (decimal f.offset ++ space) ≡ load_part f
   unfolding load_part numbers
-  load_text_lem = rw e (simp append_assoc)
+  load_text_lem = simp append_assoc
 
-  pub check_text_lem : (((strike ++ word_check) ++ (decimal n ++ space)) ++ (decimal f.method ++ space)) ++ (decimal f.offset ++ space) ≡ check_part f
+  pub check_text_lem : (((strike ++ word_check) ++ (decimal f.number ++ space)) ++ (decimal f.method ++ space)) ++ (decimal f.offset ++ space) ≡ check_part f
   unfolding check_part numbers
-  check_text_lem = rw e (simp append_assoc)
+  check_text_lem = simp append_assoc
 
   pub run_text_lem : (s : ℕ) (v : Option Value)
-      → ((((((strike ++ word_run) ++ (decimal n ++ space)) ++ (decimal f.method ++ space)) ++ (decimal f.offset ++ space)) ++ (decimal s ++ space))
+      → ((((((strike ++ word_run) ++ (decimal f.number ++ space)) ++ (decimal f.method ++ space)) ++ (decimal f.offset ++ space)) ++ (decimal s ++ space))
       ++ text_of v) ++ bar
       ≡ run_part f s v
   unfolding run_part numbers
-  run_text_lem s v = rw e (simp append_assoc)
+  run_text_lem s v = simp append_assoc
 
 pub refused_text : (f : Fault) → (check_part f ++ run_part f 0 none) ++ (dash ++ line_feed) ≡ refused_rest f
 unfolding refused_rest
@@ -96,39 +97,39 @@ module _ (M : Module) (arguments : List ℕ) (budget : ℕ) (c : Result ⊤ Faul
   unfolding loaded_rest check_part run_part run_text told
   ended_rest r = rw (check_told (check_module M) c checks, r.runs, r.tells.value, r.tells.exact, bar_is) (simp append_assoc)
 
-  module _ (runs : Answers (run_module M arguments budget) e) {s s1 s2 s3 : List ℕ} {at at1 at2 at3 : ℕ} (checked : Appended s at (check_part (numbered c)) s1 at1)
-      (ran : Appended s1 at1 (run_part e.end e.steps (value_of e.value)) s2 at2) where
+  module _ (runs : Answers (run_module M arguments budget) e) (w x y : Text) (checked : x ≡ appended w (check_part c))
+      (ran : y ≡ appended x (run_part e.end e.steps (value_of e.value))) where
     -- the run is refused: no state
-    pub refused_run : refuses e.end.number ≡ true → Appended s2 at2 (dash ++ line_feed) s3 at3 → Appended s at (loaded_rest M arguments budget) s3 at3
-    refused_run b a = same (refused_rest_lem (is_refused M arguments budget e runs b)) (then (then checked ran) a)
+    pub refused_run : refuses e.end.number ≡ true → (z : Text) → z ≡ appended y (dash ++ line_feed) → z ≡ appended w (loaded_rest M arguments budget)
+    refused_run b z a =
+        same w z _ _ (added_then w y z _ _ (added_then w x y _ _ checked ran) a) (refused_rest_lem (is_refused M arguments budget e runs b))
 
     -- the run ended: the state that it ended with
     pub ended_run : refuses e.end.number ≡ false → Fine M → (code : List ℕ) (L : Loaded) → Holds M code L
         → ((i : ℕ) → get_or arguments i 0 < 18446744073709551616) → {types statics : List ℕ} → HoldsTypes M types statics
-        → Told L.methods L.fields types e.state s2 at2 s3 at3 → {s4 : List ℕ} {at4 : ℕ} → Appended s3 at3 line_feed s4 at4
-        → Appended s at (loaded_rest M arguments budget) s4 at4
+        → (z : Text) → Says L.methods L.fields types e.state y z → (v : Text) → v ≡ appended z line_feed
+        → v ≡ appended w (loaded_rest M arguments budget)
     unfolding told
-    ended_run b fin code L hold wide {types} {statics} typed t a =
+    ended_run b fin code L hold wide {types} {statics} typed z t v a =
         let r = has_ended M arguments budget e runs b in
         let q : e.state ≡ lay_out r.end_is.state = ap (λ (x : Ended). x.state) r.tells.exact in
         let k = keeps M arguments budget fin code L hold wide r.end_is r.runs in
-        same (ended_rest r) (then (then (then checked ran) (t.model M code L statics r.end_is.state hold refl refl fin typed k q)) a)
+        let s = t.model M code L statics r.end_is.state hold refl refl fin typed k q in
+        same w v _ _ (added_then w z v _ _ (added_then w y z _ _ (added_then w x y _ _ checked ran) s) a) (ended_rest r)
 
 -- ---- The whole line from its two halves
 
-module _ (tables code arguments : List ℕ) (budget : ℕ) (r : Result Loaded Fault)
-    {s s1 s2 : List ℕ} {at1 at2 : ℕ} (first : Appended s 0 (load_part (numbered r)) s1 at1) where
-  pub refused_load : (f : Fault) → r ≡ Err f → Answered.Says tables code (Err f) → Appended s1 at1 (refused_rest f) s2 at2
-      → Appended s 0 (replay tables code arguments budget ++ line_feed) s2 at2
-  unfolding numbered
-  refused_load f e says a = same (refused_line tables code arguments budget f (refused f says)) (then (rw e at first) a)
+module _ (tables code arguments : List ℕ) (budget : ℕ) (f : Fault) (none : Type 0) (L : Loaded)
+    (says : Loads.Answers (load tables code) f none (λ M. Holds M code L)) (w x y : Text) (first : x ≡ appended w (load_part f)) where
+  pub refused_load : (f.number ≡ 0 → ⊥) → y ≡ appended x (refused_rest f) → y ≡ appended w (replay tables code arguments budget ++ line_feed)
+  refused_load n a = same w y _ _ (added_then w x y _ _ first a) (refused_line tables code arguments budget f (refused f none L says n))
 
-  pub loaded : (L : Loaded) → r ≡ Ok L → Answered.Says tables code (Ok L) → Bytes code
-      → ((M : Module) → Fine M → Bounded M → Holds M code L → Appended s1 at1 (loaded_rest M arguments budget) s2 at2)
-      → Appended s 0 (replay tables code arguments budget ++ line_feed) s2 at2
-  unfolding numbered
-  loaded L e says b a =
-      let t = stands L says in
+  pub loaded : f.number ≡ 0 → Bytes code → ((M : Module) → Fine M → Bounded M → Holds M code L → y ≡ appended x (loaded_rest M arguments budget))
+      → y ≡ appended w (replay tables code arguments budget ++ line_feed)
+  unfolding Loads.Answers
+  loaded z b a =
+      let t = stands f none L says z in
       let M = t.module_is in
-      same (loaded_line tables code arguments budget M t.loads)
-      (then (rw e at first) (a M (fine tables code M b t.loads) (bounded tables code M t.loads) t.holds))
+      let q : f ≡ no_fault = (rw t.loads at says).0 in
+      same w y _ _ (added_then w x y _ _ first (a M (fine tables code M b t.loads) (bounded tables code M t.loads) t.holds))
+      (loaded_line tables code arguments budget M t.loads f q)

@@ -2,13 +2,12 @@
 use Prim.Native.Nat.{ℕ, ◌≤◌, ◌<◌}
 use mathlib.Core.Path.{◌≡◌, refl, sym, ap, ◌∙◌, subst}
 use mathlib.Core.Bool.{Bool, true, false, ◌&&◌}
-use mathlib.Core.Logic.{◌⊎◌, inl, inr}
 use mathlib.Core.Option.{Option, none, some}
 use mathlib.Core.List.{List}
 use native.Mathlib.Omega.{arith}
 use lib.ListN.{get_or}
-use lib.Dec.{T, leb, ltb, leb→le}
-use borrow.Author.Tests.{le-leb, lt-leb, lt-ltb, le-ltb}
+use lib.Dec.{T, leb, leb→le}
+use borrow.Author.Tests.{lt-leb}
 use Rattle.model.specs.Answer.{Answer, bad, ok, ◌>>=◌, need, guard}
 use Rattle.model.specs.Tables.{Module, method_at}
 use Rattle.model.specs.Loading.{Refusal, refusal, within}
@@ -21,7 +20,6 @@ use Rattle.model.proofs.Budget.{Within, completes, uses, stops, steps_within}
 use Rattle.loaded.specs.Holds.{Holds}
 use Rattle.loaded.specs.declared.Loaded.{Loaded}
 use Rattle.state.specs.Order.{Fine}
-use Rattle.faithful.proofs.Lists.{le_or_lt}
 use Rattle.runner.specs.Answers.{Answers, Tells, told, refused_by}
 use Rattle.runner.specs.declared.Ended.{Ended}
 use Rattle.state_text.specs.Keeps.{Keeps}
@@ -62,18 +60,6 @@ from_31 n h = rw (lt-leb n 30 (omega arith)) (none_of (leb 1 n))
     none_of : (b : Bool) → b && false ≡ false
     none_of true = refl
     none_of false = refl
-
-pub returned : (n : ℕ) → n < 1 → false ≡ refuses n
-unfolding refuses within
-returned n h = rw (lt-leb 1 n h)
-
-pub below_31 : (n : ℕ) → 1 ≤ n → ltb n 31 ≡ refuses n
-unfolding refuses within
-below_31 n h = rw (le-leb 1 n h) (go (le_or_lt 31 n))
-  where
-    go : (31 ≤ n) ⊎ (n < 31) → ltb n 31 ≡ leb n 30
-    go (inl k) = le-ltb n 31 k ∙ sym (lt-leb n 30 (omega arith))
-    go (inr k) = lt-ltb n 31 k ∙ sym (le-leb n 30 (omega arith))
 
 -- and ends with other numbers
 ending_number : {budget : ℕ} {e : Run.Ended} → Within budget e → refuses e.ending ≡ false

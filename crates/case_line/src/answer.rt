@@ -5,38 +5,37 @@ ghost use Rattle.model.specs.Replay.{replay};
 ghost use Rattle.loaded.specs.Holds.{Holds};
 ghost use Rattle.state.specs.Order.{Fine};
 ghost use Rattle.checker.specs.Bounded.{Bounded};
-ghost use Rattle.line.specs.Append.{Appended};
+ghost use Rattle.line.specs.Append.{appended};
+ghost use Rattle.between_steps.specs.Running.{lent_loaded};
 ghost use Rattle.runner.specs.Answers.{Loads};
-ghost use Rattle.state_text.specs.Texts.{Told};
+ghost use Rattle.state_text.specs.Texts.{Says};
 ghost use Rattle.case_line.specs.Case.{line_feed};
 ghost use Rattle.case_line.specs.Texts.{loaded_rest, refuses as refuses_of};
 
 use crate::parts::{check_part, load_part, refused_rest, run_part};
 use checker::check;
-use line::numbers::{put, word};
-use loaded::Loaded;
-use loader::load;
-use loitsupar::numbered::numbered;
+use line::text::Text;
+use loaded::Counts;
+use loader::load_into;
 use prepare::types;
 use runner::run;
-use state_text::whole::state;
+use state_text::whole::say;
 
-// Refusals have the numbers below this, endings those from it on, and a return from the entry 0.
-const FIRST_ENDING: u8 = 31;
+// The numbers of refusals; those above are endings, and 0 is a return from the entry.
+const FIRST_REFUSAL: u8 = 1;
 
+const LAST_REFUSAL: u8 = 30;
+
+#[tactic(auto, unfolding(crate::specs::Texts::refuses, model::specs::Loading::within))]
 fn refuses(number: u8) -> bool
     ensures { result ≡ refuses_of number }
 {
-    if number < 1 {
-        return false;
-    }
-    number < FIRST_ENDING
+    FIRST_REFUSAL <= number && number <= LAST_REFUSAL
 }
 
 // The text of a state whose arrays are lent from one struct.
 fn state_part<'a>(
-    out: &mut [u8],
-    at: usize,
+    text: &mut Text,
     methods: &[u8; 4128],
     fields: &[u8; 516],
     types: &[u8; 264],
@@ -47,8 +46,8 @@ fn state_part<'a>(
     marks: &'a [u8; 33],
     classes: &'a [u8; 256],
     heap: &'a [u64; 2048],
-) -> usize
-    ensures { Told methods.now fields.now types.now
+)
+    ensures { Says methods.now fields.now types.now
         (record {
           live = live;
           cells = cells.now;
@@ -58,49 +57,58 @@ fn state_part<'a>(
           classes = classes.now;
           heap = heap.now;
         })
-        out.old at out.new result }
+        text.old text.new }
 {
-    state(
-        out, at, methods, fields, types, live, cells, kinds, statics, marks, classes, heap,
-    )
+    say(
+        text, methods, fields, types, live, cells, kinds, statics, marks, classes, heap,
+    );
 }
 
 // What follows `load 0 0 `: check and run of the loaded module, and the state that the run ended with.
 fn loaded_rest(
-    out: &mut [u8],
-    at: usize,
-    loaded: &Loaded,
+    text: &mut Text,
+    counts: Counts,
+    parents: &[u8; 33],
+    initialisers: &[u8; 33],
+    fields: &[u8; 516],
+    methods: &[u8; 4128],
+    parts: &[usize; 258],
     code: &[u8],
     arguments: &[u64],
     budget: u64,
-) -> usize
-    requires { Loads code.now loaded.now }
-    ensures { (M : Module) → Fine M → Bounded M → Holds M code.now loaded.now
-        → Appended out.old at (loaded_rest M arguments.now budget) out.new result }
+)
+    requires { Loads code.now (lent_loaded counts parents.now initialisers.now fields.now methods.now parts.now) }
+    ensures { (M : Module) → Fine M → Bounded M →
+        Holds M code.now (lent_loaded counts parents.now initialisers.now fields.now methods.now
+        parts.now) → text.new ≡ appended text.old (loaded_rest M arguments.now budget) }
 {
-    let found = numbered(&check(loaded, code));
-    let a = check_part(out, at, found);
-    let e = run(loaded, code, arguments, budget);
+    let found = check(counts, parents, fields, methods, parts, code);
+    check_part(text, found);
+    let e = run(
+        counts,
+        parents,
+        initialisers,
+        fields,
+        methods,
+        parts,
+        code,
+        arguments,
+        budget,
+    );
     let end = e.end;
     let value = e.value;
-    let b = run_part(out, a, end, e.steps, value);
+    run_part(text, end, e.steps, value);
     if refuses(end.number) {
-        return word(out, b, b"-\n");
+        text.word(b"-\n");
+        return;
     }
     let mut cell_types = [0u8; 264];
     let mut static_types = [0u8; 64];
-    types(
-        loaded.counts,
-        &loaded.parents,
-        &loaded.fields,
-        &mut cell_types,
-        &mut static_types,
-    );
-    let c = state_part(
-        out,
-        b,
-        &loaded.methods,
-        &loaded.fields,
+    types(counts, parents, fields, &mut cell_types, &mut static_types);
+    state_part(
+        text,
+        methods,
+        fields,
         &cell_types,
         e.state.live,
         &e.state.cells,
@@ -110,18 +118,44 @@ fn loaded_rest(
         &e.state.classes,
         &e.state.heap,
     );
-    put(out, c, b'\n')
+    text.put(b'\n');
 }
 
 // The line of tables and code, run with arguments and a budget.
-pub fn answer(tables: &[u8], code: &[u8], arguments: &[u64], budget: u64, out: &mut [u8]) -> usize
-    ensures { Appended out.old 0
-        (replay tables.now code.now arguments.now budget ++ line_feed) out.new result }
+pub fn answer(text: &mut Text, tables: &[u8], code: &[u8], arguments: &[u64], budget: u64)
+    ensures same_buffer { text.new.out.ghost_name ≡ text.old.out.ghost_name }
+    ensures text { text.new ≡ appended text.old (replay tables.now code.now arguments.now budget ++ line_feed) }
 {
-    let answer = load(tables, code);
-    let a = load_part(out, numbered(&answer));
-    match answer {
-        Ok(loaded) => loaded_rest(out, a, &loaded, code, arguments, budget),
-        Err(refusal) => refused_rest(out, a, refusal),
+    let mut parents = [0u8; 33];
+    let mut initialisers = [0u8; 33];
+    let mut fields = [0u8; 516];
+    let mut methods = [0u8; 4128];
+    let mut parts = [0usize; 258];
+    let l = load_into(
+        tables,
+        code,
+        &mut parents,
+        &mut initialisers,
+        &mut fields,
+        &mut methods,
+        &mut parts,
+    );
+    let fault = l.fault;
+    load_part(text, fault);
+    if fault.number != 0 {
+        refused_rest(text, fault);
+        return;
     }
+    loaded_rest(
+        text,
+        l.counts,
+        &parents,
+        &initialisers,
+        &fields,
+        &methods,
+        &parts,
+        code,
+        arguments,
+        budget,
+    );
 }

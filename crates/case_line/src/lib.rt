@@ -14,6 +14,7 @@ use crate::answer::answer;
 use crate::reading::{MOST_ARGUMENTS, fill, locate};
 use code::little::little4;
 use code::part::{after, part};
+use line::text::Text;
 
 // How long a case is by its first bytes, of which those that are missing count 0: bytes are a case where they are as many as they announce.
 pub fn announced(case: &[u8]) -> usize
@@ -34,11 +35,13 @@ pub fn line(case: &[u8], out: &mut [u8]) -> usize
     }
     let mut words = [0u64; MOST_ARGUMENTS];
     fill(&mut words, after(case, p.arguments), count);
+    let mut text = Text::up_to(out, 0);
     answer(
+        &mut text,
         part(case, reading::LENGTH, p.tables),
         part(case, p.code, p.size),
         &words[..count],
         little4(after(case, p.budget)),
-        out,
-    )
+    );
+    text.end()
 }

@@ -65,9 +65,7 @@ pub fn fill(words: &mut [u64; MOST_ARGUMENTS], bytes: &[u8], count: usize)
     ensures words_len { length words.new ≡ 255 }
     ensures take_is { take count words.new ≡ words_of count bytes.now }
 {
-    let mut i = 0;
-    while i < count {
+    for i in 0..count {
         words[i] = little8(after(bytes, WORD * i));
-        i += 1;
     }
 }

@@ -1,16 +1,17 @@
 -- Appends one after the other, and what a buffer holds where there is room.
-use mathlib.Core.Path.{◌≡◌, refl, sym, ap, ◌∙◌, subst}
+use mathlib.Core.Path.{◌≡◌, refl, sym, ap, ◌∙◌}
 use mathlib.Core.List.{List, [], ◌∷◌, ◌++◌}
 use Prim.Native.Nat.{ℕ, zero, suc, ◌+◌, ◌≤◌, ◌<◌}
 use native.Mathlib.Nat.{add-zero, suc-add, zero-add}
 use native.Mathlib.Numerals.{add-one}
 use native.Mathlib.Omega.{arith}
 use lib.ListN.{length, take, get_or, set, length-append}
-use lib.Seq.{sets, set_out, length-sets, sets-eq, length-take-le, take_at, take-suc, take_all}
+use lib.Seq.{sets, set_out, length-sets, sets-eq, length-take-le, take_at, take-suc}
 use borrow.Author.Tests.{lt-ltb, le-ltb}
 use Rattle.model.specs.Answer.{pick}
 use Rattle.integers.proofs.Tests.{by_less}
-use Rattle.line.specs.Append.{next, past, Appended}
+use Rattle.line.specs.Append.{next, past, appended, Appended}
+use Rattle.line.specs.declared.text.Text.{Text}
 
 -- ---- Places
 
@@ -65,8 +66,8 @@ sets_past u s (suc n) at =
 -- ---- Appends
 
 -- bytes and place say the rest
-appended : {s t s' : List ℕ} {at at' : ℕ} → s' ≡ sets s at t → at' ≡ past (length s) at (length t) → Appended s at t s' at'
-appended {s} {t} {s'} {at} {at'} b p =
+by_place : {s t s' : List ℕ} {at at' : ℕ} → s' ≡ sets s at t → at' ≡ past (length s) at (length t) → Appended s at t s' at'
+by_place {s} {t} {s'} {at} {at'} b p =
     record {
       bytes = b;
       place = p;
@@ -77,37 +78,67 @@ appended {s} {t} {s'} {at} {at'} b p =
       over = λ h. rw p (past_over (length s) at (length t) h);
     }
 
-pub nothing : (s : List ℕ) (at : ℕ) → Appended s at [] s at
-unfolding past
-nothing s at = appended refl refl
+-- ---- Texts
+
+pub added_none : (a : Text) → a ≡ appended a []
+unfolding appended past
+added_none a = refl
+
+-- a text in two parts is one after the other
+pub added_parts : (a : Text) (t u : List ℕ) → appended a (t ++ u) ≡ appended (appended a t) u
+unfolding appended
+added_parts a t u =
+    sym
+    (
+    let room = length a.out.now in
+    let held = sets a.out.now a.at t in
+    let bytes : sets held (past room a.at (length t)) u ≡ sets a.out.now a.at (t ++ u) =
+    ap (λ (k : ℕ). sets held (past k a.at (length t)) u) (sym (length-sets a.out.now a.at t)) ∙ sets_past u held (length t) a.at
+    ∙ sym (sets_append t u a.out.now a.at) in
+    let place : past (length held) (past room a.at (length t)) (length u) ≡ past room a.at (length (t ++ u)) =
+    ap (λ (k : ℕ). past k (past room a.at (length t)) (length u)) (length-sets a.out.now a.at t)
+    ∙ sym (past_add room a.at (length t) (length u)) ∙ ap (past room a.at) (sym (length-append t u)) in
+    ap (λ (s : List ℕ). record a { out = record a.out { now = s }; at = past (length held) (past room a.at (length t)) (length u) }) bytes
+    ∙ ap (λ (n : ℕ). record a { out = record a.out { now = sets a.out.now a.at (t ++ u) }; at = n }) place)
 
 -- the same text, said otherwise
-pub same : {s t t' s' : List ℕ} {at at' : ℕ} → t ≡ t' → Appended s at t s' at' → Appended s at t' s' at'
-same {s} {t} {t'} {s'} {at} {at'} e a = subst (λ (u : List ℕ). Appended s at u s' at') e a
+pub same : (a b : Text) (t u : List ℕ) → b ≡ appended a t → t ≡ u → b ≡ appended a u
+same a b t u p e = p ∙ ap (appended a) e
 
-pub then : {s t s' u s'' : List ℕ} {at at' at'' : ℕ} → Appended s at t s' at' → Appended s' at' u s'' at'' → Appended s at (t ++ u) s'' at''
-then {s} {t} {s'} {u} {s''} {at} {at'} {at''} a b =
-    appended
-    (b.bytes ∙ ap (λ (l : List ℕ). sets l at' u) a.bytes
-    ∙ ap (λ (k : ℕ). sets (sets s at t) k u) (a.place ∙ ap (λ (k : ℕ). past k at (length t)) (sym (length-sets s at t)))
-    ∙ sets_past u (sets s at t) (length t) at ∙ sym (sets_append t u s at))
-    (b.place ∙ ap (λ (k : ℕ). past k at' (length u)) (ap length a.bytes ∙ length-sets s at t)
-    ∙ ap (λ (k : ℕ). past (length s) k (length u)) a.place
-    ∙ sym (past_add (length s) at (length t) (length u)) ∙ ap (past (length s) at) (sym (length-append t u)))
-
--- one byte: stored where it has room, dropped where it has none
-pub stored : (s : List ℕ) (at b : ℕ) → at < length s → Appended s at (b ∷ []) (set s at b) (at + 1)
-unfolding past
-stored s at b h = appended refl (add-one at ∙ sym (next_in (length s) at h))
-
-pub dropped : (s : List ℕ) (at b : ℕ) → length s ≤ at → Appended s at (b ∷ []) s (length s + 1)
-unfolding past
-dropped s at b h = appended (sym (set_out s at b h)) (add-one (length s) ∙ sym (next_out (length s) at h))
+pub added_then : (a b c : Text) (t u : List ℕ) → b ≡ appended a t → c ≡ appended b u → c ≡ appended a (t ++ u)
+added_then a b c t u p q = q ∙ ap (λ (x : Text). appended x u) p ∙ sym (added_parts a t u)
 
 -- the next byte of a text that is copied
-pub further : {s s' s'' : List ℕ} {at at' at'' : ℕ} (t : List ℕ) (i : ℕ) → i < length t
-    → Appended s at (take i t) s' at' → Appended s' at' (get_or t i 0 ∷ []) s'' at'' → Appended s at (take (i + 1) t) s'' at''
-further t i h a b = same (sym (ap (λ (k : ℕ). take k t) (add-one i) ∙ take-suc t i 0 h)) (then a b)
+pub added_next : (a b c : Text) (t : List ℕ) (i : ℕ) → i < length t → b ≡ appended a (take i t) → c ≡ appended b (get_or t i 0 ∷ []) → c ≡ appended a (take (i + 1) t)
+added_next a b c t i h p q =
+    added_then a b c (take i t) (get_or t i 0 ∷ []) p q
+    ∙ ap (appended a) (sym (ap (λ (k : ℕ). take k t) (add-one i) ∙ take-suc t i 0 h))
 
-pub through : {s s' : List ℕ} {at at' : ℕ} (t : List ℕ) (i : ℕ) → length t ≤ i → Appended s at (take i t) s' at' → Appended s at t s' at'
-through t i h a = same (take_all i t h) a
+-- one byte: stored where it has room, dropped where it has none
+pub put_in : (a : Text) (b : ℕ) → a.at < length a.out.now
+    → record a { out = record a.out { now = set a.out.now a.at b }; at = a.at + 1 } ≡ appended a (b ∷ [])
+unfolding appended past
+put_in a b h =
+    ap (λ (k : ℕ). record a { out = record a.out { now = set a.out.now a.at b }; at = k }) (add-one a.at ∙ sym (next_in (length a.out.now) a.at h))
+
+pub put_out : (a : Text) (b : ℕ) → length a.out.now ≤ a.at → record a { at = length a.out.now + 1 } ≡ appended a (b ∷ [])
+unfolding appended past
+put_out a b h =
+    ap (λ (s : List ℕ). record a { out = record a.out { now = s }; at = length a.out.now + 1 }) (sym (set_out a.out.now a.at b h))
+    ∙ ap (λ (k : ℕ). record a { out = record a.out { now = set a.out.now a.at b }; at = k })
+    (add-one (length a.out.now) ∙ sym (next_out (length a.out.now) a.at h))
+
+-- what a buffer holds where a text that was taken up in it has grown
+pub held : (s : List ℕ) (at : ℕ) (a b : Text) (t s' : List ℕ) (r : ℕ) → a.out.now ≡ s → a.at ≡ at → b ≡ appended a t → s' ≡ b.out.now → r ≡ b.at
+    → Appended s at t s' r
+unfolding appended
+held s at a b t s' r p q e y z = rw (← p, ← q, y, z) (by_place (ap (λ (x : Text). x.out.now) e) (ap (λ (x : Text). x.at) e))
+
+-- and where nothing was
+pub nothing : (s : List ℕ) (at : ℕ) → Appended s at [] s at
+unfolding past
+nothing s at = by_place refl refl
+
+pub same_buffer : (a b : Text) (t : List ℕ) → b ≡ appended a t → b.out.ghost_name ≡ a.out.ghost_name
+unfolding appended
+same_buffer a b t e = ap (λ (x : Text). x.out.ghost_name) e

@@ -1,22 +1,16 @@
--- The parts of a line in their order, and how long it can be.
+-- How long a line can be.
 use mathlib.Core.Path.{◌≡◌}
 use mathlib.Core.Option.{Option, none, some}
-use mathlib.Core.List.{List, [], ◌∷◌, ◌++◌, append_assoc}
+use mathlib.Core.List.{List}
 use Prim.Native.Nat.{ℕ, ◌≤◌}
 use native.Mathlib.Omega.{arith}
 use lib.ListN.{length, length-append}
 use mir.Syntax.{w32, w64}
 use mir.Val.{to_z}
 use Rattle.model.specs.State.{Value, vint32, vint64, v_f, vnull, vobject}
-use Rattle.model.specs.Turn.{decimal, space, dash, text_of, Line, print}
+use Rattle.model.specs.Turn.{space, dash, text_of, Line, print}
 use Rattle.line.specs.Append.{Appended, Alone}
 use Rattle.line.proofs.Spelling.{decimal_length, signed_length, hex_length}
-
-pub in_order : (e m o s : ℕ) (v : Option Value)
-    → (((((decimal e ++ space) ++ (decimal m ++ space)) ++ (decimal o ++ space)) ++ (decimal s ++ space)) ++ text_of v) ++ (10 ∷ [])
-    ≡ print (record { ending = e; method = m; offset = o; steps = s; value = v })
-unfolding print
-in_order e m o s v = simp append_assoc
 
 text_length : (v : Option Value) → length (text_of v) ≤ 21
 unfolding text_of dash

@@ -2,6 +2,7 @@
 use Rattle.std.specs.Prelude.{◌≡◌, List, ◌++◌, ℕ, zero, suc, ◌+◌, ◌≤◌, ◌<◌, ltb, length, take}
 use Rattle.std.proofs.lemmas.List.Edits.{sets}
 use Rattle.model.specs.Answer.{pick}
+use Rattle.line.specs.declared.text.Text.{Text}
 
 -- the place after one byte in a buffer of a length, one past its end where the byte has no room
 unfoldable pub next : ℕ → ℕ → ℕ
@@ -11,6 +12,10 @@ next room at = pick (ltb at room) (suc at) (suc room)
 unfoldable pub past : ℕ → ℕ → ℕ → ℕ
 past room at zero = at
 past room at (suc n) = past room (next room at) n
+
+-- a text with t after it, as far as its buffer has room
+unfoldable pub appended : Text → List ℕ → Text
+appended a t = record a { out = record a.out { now = sets a.out.now a.at t }; at = past (length a.out.now) a.at (length t) }
 
 -- the buffer s with the text t from a place on, as far as it has room, and the place after it
 pub record Appended (s : List ℕ) (at : ℕ) (t s' : List ℕ) (at' : ℕ) : Type 0 where

@@ -3,4 +3,4 @@
 
 pub mod input;
 pub mod line;
-pub mod numbers;
+pub mod text;

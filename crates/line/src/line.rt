@@ -1,10 +1,10 @@
 // The line that `turn` prints.
-ghost use Rattle.std.specs.Prelude.{◌++◌};
-ghost use Rattle.model.specs.Turn.{decimal, space, text_of, print};
-ghost use Rattle.line.specs.Append.{Appended, Alone};
+ghost use Rattle.std.specs.Prelude.{◌≡◌};
+ghost use Rattle.model.specs.Turn.{text_of, print};
+ghost use Rattle.line.specs.Append.{appended, Alone};
 ghost use Rattle.line.specs.Values.{value_of};
 
-use super::numbers::{decimal, hex, put, signed};
+use super::text::Text;
 
 // What a run hands back, as bits; an object is its number.
 #[derive(Clone, Copy)]
@@ -17,46 +17,36 @@ pub enum Value {
     Object(u64),
 }
 
-// A value: decimal, F as 16 upper-case hex digits, `-` for none; no class is returned by an entry.
-pub fn value_text(out: &mut [u8], at: usize, value: Value) -> usize
-    ensures { Appended out.old at (text_of (value_of value)) out.new result }
-{
-    match value {
-        Value::None => put(out, at, b'-'),
-        Value::Int32(n) => signed(out, at, false, n),
-        Value::Int64(n) => signed(out, at, true, n),
-        Value::Real(n) => hex(out, at, 16, n),
-        Value::Null => put(out, at, b'-'),
-        Value::Object(_) => put(out, at, b'-'),
+// How many digits an F has.
+const REAL_DIGITS: usize = 16;
+
+impl<'a> Text<'a> {
+    // A value: decimal, F as 16 upper-case hex digits, `-` for none; no class is returned by an entry.
+    #[tactic(auto, unfolding(model::specs::Turn::text_of, model::specs::Turn::dash))]
+    pub fn value(&mut self, value: Value)
+        ensures { self.new ≡ appended self.old (text_of (value_of value)) }
+    {
+        match value {
+            Value::Int32(n) => self.signed(false, n),
+            Value::Int64(n) => self.signed(true, n),
+            Value::Real(n) => self.hex(REAL_DIGITS, n),
+            Value::None | Value::Null | Value::Object(_) => self.put(b'-'),
+        }
     }
-}
 
-// A number and the space after it.
-pub fn number(out: &mut [u8], at: usize, n: usize) -> usize
-    ensures { Appended out.old at (decimal n ++ space) out.new result }
-{
-    let next = decimal(out, at, n as u64);
-    put(out, next, b' ')
-}
-
-// The line, after what `out` holds up to `at`.
-pub fn append_line(
-    out: &mut [u8],
-    at: usize,
-    ending: usize,
-    method: usize,
-    offset: usize,
-    steps: usize,
-    value: Value,
-) -> usize
-    ensures { Appended out.old at (print (record { ending = ending; method = method; offset = offset; steps = steps; value = value_of value })) out.new result }
-{
-    let a = number(out, at, ending);
-    let b = number(out, a, method);
-    let c = number(out, b, offset);
-    let d = number(out, c, steps);
-    let e = value_text(out, d, value);
-    put(out, e, b'\n')
+    // The line.
+    #[tactic(auto, using(crate::proofs::Appending::added_parts), unfolding(model::specs::Turn::print))]
+    fn line(&mut self, ending: usize, method: usize, offset: usize, steps: usize, value: Value)
+        ensures { self.new ≡ appended self.old
+            (print (record { ending = ending; method = method; offset = offset; steps = steps; value = value_of value })) }
+    {
+        self.number(ending);
+        self.number(method);
+        self.number(offset);
+        self.number(steps);
+        self.value(value);
+        self.put(b'\n');
+    }
 }
 
 // The line alone, and how long it is.
@@ -71,5 +61,7 @@ pub fn line(
     ensures { Alone out.old (print (record { ending = ending; method = method; offset = offset; steps = steps; value = value_of value }))
         out.new result }
 {
-    append_line(out, 0, ending, method, offset, steps, value)
+    let mut text = Text::up_to(out, 0);
+    text.line(ending, method, offset, steps, value);
+    text.end()
 }

@@ -1,7 +1,7 @@
 -- Texts one after the other: one more cell, row, object or frame at the end.
 use Prim.Native.Nat.{ℕ, zero, suc, ◌+◌, ◌≤◌}
 use mathlib.Core.Path.{◌≡◌, refl, sym, ap, ◌∙◌}
-use mathlib.Core.Bool.{Bool, true, false}
+use mathlib.Core.Bool.{Bool, false}
 use mathlib.Core.Option.{Option, none, some}
 use mathlib.Core.List.{List, [], ◌∷◌, ◌++◌, append-nil, append_assoc, map, reverse, reverse_aux-eq}
 use native.Mathlib.Omega.{arith}
@@ -14,9 +14,10 @@ use Rattle.model.specs.State.{Value, Frame, Object, Heap}
 use Rattle.model.specs.Turn.{decimal}
 use Rattle.model.specs.Replay.{cell_text, commas, cell_texts, frame_text, frames_text, heap_text}
 use Rattle.state.specs.View.{down, span, kind_of_byte, refer_to, value_by}
-use Rattle.line.specs.Append.{Appended}
-use Rattle.line.proofs.Appending.{same, then}
-use Rattle.state_text.specs.Texts.{value_in, comma, none_yet, up_to}
+use Rattle.line.specs.Append.{appended}
+use Rattle.line.specs.declared.text.Text.{Text}
+use Rattle.line.proofs.Appending.{added_then}
+use Rattle.state_text.specs.Texts.{value_in, comma, up_to}
 
 -- ---- A cell by its kind
 
@@ -71,41 +72,34 @@ cells_more g n =
     (commas_more (map cell_text (span g 0 n)) (cell_text (g n)) ∙ rw (nil_map g n))
 
 -- one more cell of a row
-cell_more : {s s' s'' : List ℕ} {at at' at'' : ℕ} (g : ℕ → Value) (n : ℕ)
-    → Appended s at (cell_texts (span g 0 n)) s' at' → Appended s' at' (comma (eqb n 0) ++ cell_text (g n)) s'' at'' → Appended s at (cell_texts (span g 0 (n + 1))) s'' at''
-cell_more g n a b = same (sym (cells_more g n)) (then a b)
-
--- a cell of a kind and bits that are read
-pub cell_next : {s s' s'' : List ℕ} {at at' at'' k b : ℕ} (g : ℕ → Value) (n : ℕ) (k' b' : ℕ) → k ≡ k' → b ≡ b' → g n ≡ value_in k' b'
-    → Appended s at (cell_texts (span g 0 n)) s' at' → Appended s' at' (comma (eqb n 0) ++ cell_text (value_in k b)) s'' at'' → Appended s at (cell_texts (span g 0 (n + 1))) s'' at''
-cell_next g n k' b' p q e a j = cell_more g n a (same (rw (p, q, e)) j)
-
--- a loop that is through
-pub all_of : {s s' : List ℕ} {at at' : ℕ} (T : ℕ → List ℕ) (i n : ℕ) → i ≤ n → n ≤ i → Appended s at (T i) s' at' → Appended s at (T n) s' at'
-all_of T i n h k a = let e : i ≡ n = omega arith in same (ap T e) a
+pub cell_more : (x y z w : Text) (g : ℕ → Value) (n : ℕ)
+    → y ≡ appended x (cell_texts (span g 0 n)) → z ≡ appended y (comma (eqb n 0)) → w ≡ appended z (cell_text (g n)) → w ≡ appended x (cell_texts (span g 0 (n + 1)))
+cell_more x y z w g n p q r =
+    added_then x y w _ _ p (added_then y z w _ _ q r) ∙ ap (appended x) (sym (cells_more g n))
 
 -- ---- Rows of which some have a text
 
-module _ (f : ℕ → List (List ℕ)) (n flag : ℕ) (x : List ℕ) (first : Bool) (e : f n ≡ pick (eqb flag 1) (x ∷ []) []) (h : first ≡ is_nil (up_to f n)) where
-  pub nil_more : none_yet first flag ≡ is_nil (up_to f (n + 1))
-  unfolding none_yet up_to pick is_nil
-  nil_more = rw (add-one n) (rw (e, h) (go (eqb flag 1) (up_to f n))) where
-    go : (b : Bool) (l : List (List ℕ)) → pick b false (is_nil l) ≡ is_nil (l ++ pick b (x ∷ []) [])
-    go true [] = refl
-    go true (y ∷ l) = refl
-    go false [] = refl
-    go false (y ∷ l) = refl
+none_after : (l : List (List ℕ)) (x : List ℕ) → false ≡ is_nil (l ++ (x ∷ []))
+unfolding is_nil
+none_after [] x = refl
+none_after (y ∷ l) x = refl
 
-  texts_more : commas (up_to f n) ++ pick (eqb flag 1) (comma first ++ x) [] ≡ commas (up_to f (n + 1))
-  unfolding up_to pick
-  texts_more = rw (add-one n) (rw (e, h) (go (eqb flag 1) (up_to f n))) where
-    go : (b : Bool) (l : List (List ℕ)) → commas l ++ pick b (comma (is_nil l) ++ x) [] ≡ commas (l ++ pick b (x ∷ []) [])
-    go true l = sym (commas_more l x)
-    go false l = rw (append-nil (commas l), append-nil l)
+module _ (f : ℕ → List (List ℕ)) (n : ℕ) (first : Bool) (a b : Text) (h : first ≡ is_nil (up_to f n)) (p : b ≡ appended a (commas (up_to f n))) where
+  -- a row that has one
+  pub row_said : (x : List ℕ) (c : Text) → f n ≡ x ∷ [] → c ≡ appended b (comma first ++ x) → (c ≡ appended a (commas (up_to f (n + 1)))) × (false ≡ is_nil (up_to f (n + 1)))
+  unfolding up_to
+  row_said x c e q =
+      let more : up_to f (n + 1) ≡ up_to f n ++ (x ∷ []) = rw (add-one n) (ap (λ (l : List (List ℕ)). up_to f n ++ l) e) in (
+        added_then a b c _ _ p q ∙ ap (appended a) (rw (h, more) (sym (commas_more (up_to f n) x))),
+        none_after (up_to f n) x ∙ ap is_nil (sym more),
+      )
 
-  pub text_more : {s s' s'' : List ℕ} {at at' at'' : ℕ}
-      → Appended s at (commas (up_to f n)) s' at' → Appended s' at' (pick (eqb flag 1) (comma first ++ x) []) s'' at'' → Appended s at (commas (up_to f (n + 1))) s'' at''
-  text_more a b = same texts_more (then a b)
+  -- and one that has none
+  pub row_unsaid : f n ≡ [] → (b ≡ appended a (commas (up_to f (n + 1)))) × (first ≡ is_nil (up_to f (n + 1)))
+  unfolding up_to
+  row_unsaid e =
+      let same : up_to f n ≡ up_to f (n + 1) = rw (add-one n) (sym (ap (λ (l : List (List ℕ)). up_to f n ++ l) e ∙ append-nil (up_to f n))) in
+      (p ∙ ap (λ (l : List (List ℕ)). appended a (commas l)) same, h ∙ ap is_nil same)
 
 -- ---- Objects
 
@@ -115,10 +109,11 @@ heap_append [] k = refl
 heap_append (none ∷ h) k = heap_append h k
 heap_append (some o ∷ h) k = rw (heap_append h k) (simp append_assoc)
 
-pub place_more : {s s' s'' : List ℕ} {at at' at'' : ℕ} (P : ℕ → Option Object) (n : ℕ)
-    → Appended s at (heap_text (span P 0 n)) s' at' → Appended s' at' (heap_text (P n ∷ [])) s'' at'' → Appended s at (heap_text (span P 0 (n + 1))) s'' at''
-place_more P n a b =
-    same (sym (ap (λ (k : ℕ). heap_text (span P 0 k)) (add-one n) ∙ rw (span_more P 0 n, zero-add n) (heap_append (span P 0 n) (P n ∷ [])))) (then a b)
+pub place_more : (x y z : Text) (P : ℕ → Option Object) (n : ℕ)
+    → y ≡ appended x (heap_text (span P 0 n)) → z ≡ appended y (heap_text (P n ∷ [])) → z ≡ appended x (heap_text (span P 0 (n + 1)))
+place_more x y z P n p q =
+    added_then x y z _ _ p q
+    ∙ ap (appended x) (sym (ap (λ (k : ℕ). heap_text (span P 0 k)) (add-one n) ∙ rw (span_more P 0 n, zero-add n) (heap_append (span P 0 n) (P n ∷ []))))
 
 -- ---- Frames
 
@@ -128,11 +123,12 @@ frames_before [] l = refl
 frames_before (f ∷ fs) l =
     frames_before fs (frame_text f ++ l) ∙ sym (rw (frames_before fs (frame_text f ++ [])) (simp append_assoc))
 
-pub frame_more : {s s' s'' : List ℕ} {at at' at'' : ℕ} (W : ℕ → Frame) (n : ℕ)
-    → Appended s at (frames_text (down W n) []) s' at' → Appended s' at' (frame_text (W n)) s'' at'' → Appended s at (frames_text (down W (n + 1)) []) s'' at''
+pub frame_more : (x y z : Text) (W : ℕ → Frame) (n : ℕ)
+    → y ≡ appended x (frames_text (down W n) []) → z ≡ appended y (frame_text (W n)) → z ≡ appended x (frames_text (down W (n + 1)) [])
 unfolding down frames_text
-frame_more W n a b =
-    same (sym (ap (λ (k : ℕ). frames_text (down W k) []) (add-one n) ∙ frames_before (down W n) (frame_text (W n) ++ []) ∙ rw (append-nil (frame_text (W n))))) (then a b)
+frame_more x y z W n p q =
+    added_then x y z _ _ p q
+    ∙ ap (appended x) (sym (ap (λ (k : ℕ). frames_text (down W k) []) (add-one n) ∙ frames_before (down W n) (frame_text (W n) ++ []) ∙ rw (append-nil (frame_text (W n)))))
 
 -- a stack from its bottom
 pub reverse_down : {A : Type 0} (g : ℕ → A) (n : ℕ) → reverse (down g n) ≡ span g 0 n

@@ -1,5 +1,5 @@
 -- How many cells the objects of a class have: as many as have a type.
-use Prim.Native.Nat.{ℕ, zero, suc, ◌+◌, ◌≤◌, ◌<◌}
+use Prim.Native.Nat.{ℕ, zero, suc, ◌+◌, ◌*◌, ◌≤◌, ◌<◌}
 use mathlib.Core.Path.{◌≡◌, refl, sym, ap, ◌∙◌}
 use mathlib.Core.Bool.{Bool, true, false}
 use mathlib.Core.Logic.{◌⊎◌, inl, inr}
@@ -7,7 +7,7 @@ use mathlib.Core.Option.{Option, some}
 use mathlib.Core.List.{List, [], ◌∷◌, ◌++◌, map}
 use native.Mathlib.Omega.{arith}
 use native.Mathlib.Numerals.{add-one}
-use lib.ListN.{length}
+use lib.ListN.{get_or, get_or-eq_default, length, take, drop, length-take}
 use lib.Dec.{leb, eqb}
 use borrow.Author.Tests.{le-leb, lt-leb, eq-eqb, ne_eqb}
 use Rattle.model.specs.Answer.{pick, at, row, keep_if, those}
@@ -18,32 +18,33 @@ use Rattle.state.specs.Order.{Named, AllNamed, Fine, HoldsTypes}
 use Rattle.faithful.proofs.Lists.{le_or_lt, at_some, at_out}
 use Rattle.faithful.proofs.Values.{named_at}
 use Rattle.state_text.specs.Texts.{cell_of, counted, size_of}
-use Rattle.state_text.proofs.Reading.{cell_in_lem}
+use Rattle.state_text.proofs.Reading.{cell_in_lem, row_cell}
+use Rattle.std.specs.Prelude.{◌==◌, not}
+use Rattle.std.specs.List.{count_by}
+use Rattle.std.proofs.lemmas.List.{take_all}
+use Rattle.std.proofs.lemmas.List.Sums.{count_by_more_yes, count_by_more_no}
 
--- ---- One after the other
+-- ---- The cells of a row
 
-module _ (n t : ℕ) where
-  pub no_more : t ≡ 0 → n ≡ counted n t
-  unfolding counted pick
-  no_more e = rw (eq-eqb t 0 e)
+module _ (types : List ℕ) (k : ℕ) (row : List ℕ) (p : (i : ℕ) → get_or row i 0 ≡ cell_of 33 8 types k i) where
+  -- as many of the first n have a type as are not 0
+  size_row : (n : ℕ) → count_by (λ t. not (t == 0)) (take n row) ≡ size_of types k n
+  unfolding size_of counted pick
+  size_row zero = refl
+  size_row (suc n) = rw (sym (add-one n)) (go (size_row n) (le_or_lt (length row) n) (eqb (get_or row n 0) 0) refl) where
+    go : count_by (λ t. not (t == 0)) (take n row) ≡ size_of types k n → (length row ≤ n) ⊎ (n < length row) → (b : Bool) → eqb (get_or row n 0) 0 ≡ b
+        → count_by (λ t. not (t == 0)) (take (n + 1) row) ≡ counted (size_of types k n) (cell_of 33 8 types k n)
+    go m (inl h) b e =
+        rw (take_all (n + 1) row (omega arith), sym (p n), get_or-eq_default row 0 h)
+        (ap (count_by (λ t. not (t == 0))) (sym (take_all n row h)) ∙ m)
+    go m (inr h) true e = rw (sym (p n), e) (count_by_more_no (λ t. not (t == 0)) row n 0 h (rw e) ∙ m)
+    go m (inr h) false e = rw (sym (p n), e) (count_by_more_yes (λ t. not (t == 0)) row n 0 h (rw e) ∙ add-one _ ∙ ap suc m)
 
-  pub counted_one : (t ≡ 0 → ⊥) → n + 1 ≡ counted n t
-  unfolding counted pick
-  counted_one h = rw (ne_eqb t 0 h) (add-one n)
-
-pub counted_more : (types : List ℕ) (k n : ℕ) (m t : ℕ) {r : ℕ} → m ≡ size_of types k n → t ≡ cell_of 33 8 types k n → r ≡ counted m t → r ≡ size_of types k (n + 1)
-unfolding size_of
-counted_more types k n m t p q e = rw (add-one n) (rw (sym p, sym q) e)
-
-pub counted_few : (n m t : ℕ) {r : ℕ} → m ≤ n → r ≡ counted m t → r ≤ n + 1
-unfolding counted pick
-counted_few n m t {r} h e = go (eqb t 0) e where
-  go : (b : Bool) → r ≡ pick b m (suc m) → r ≤ n + 1
-  go true q = omega arith
-  go false q = omega arith
-
-pub all_counted : (types : List ℕ) (k n m : ℕ) → n ≤ 8 → 8 ≤ n → m ≡ size_of types k n → m ≡ size_of types k 8
-all_counted types k n m h l e = let q : n ≡ 8 = omega arith in e ∙ ap (size_of types k) q
+pub size_all : (types : List ℕ) (k : ℕ) (row : List ℕ) → length types ≡ 264 → row ≡ take 8 (drop (k * 8) types)
+    → count_by (λ t. not (t == 0)) row ≡ size_of types k 8
+size_all types k row e q =
+    let few : length row ≤ 8 = rw q (omega (arith, length-take 8 (drop (k * 8) types))) in
+    ap (count_by (λ t. not (t == 0))) (sym (take_all 8 row few)) ∙ size_row types k row (λ i. rw q (row_cell 33 8 types k e i)) 8
 
 -- ---- The types of a class
 

@@ -13,7 +13,8 @@ use Rattle.state.specs.declared.State.{State}
 use Rattle.state.specs.View.{down, span, kind_of_byte, value_by}
 use Rattle.state.specs.Order.{Fine, HoldsTypes}
 use Rattle.state.specs.Layout.{lay_out}
-use Rattle.line.specs.Append.{Appended}
+use Rattle.line.specs.Append.{appended, Appended}
+use Rattle.line.specs.declared.text.Text.{Text}
 use Rattle.state_text.specs.Keeps.{Keeps}
 
 -- ---- Cells
@@ -38,10 +39,6 @@ value_in k b = value_by (kind_of_byte k) b
 unfoldable pub comma : Bool → List ℕ
 comma true = []
 comma false = 44 ∷ []
-
--- whether none is said yet, after a row that is said if its flag is 1
-unfoldable pub none_yet : Bool → ℕ → Bool
-none_yet first flag = pick (eqb flag 1) false first
 
 -- the texts of the rows below n, of which some have none
 unfoldable pub up_to : (ℕ → List (List ℕ)) → ℕ → List (List ℕ)
@@ -131,6 +128,14 @@ whole_text methods fields types s =
     ++ (word_statics ++ (commas (up_to (static_at fields s.statics) 129)
     ++ (word_marks ++ (commas (up_to (mark_row s.marks) 33)
     ++ (word_heap ++ heap_text (heap_in s.classes types s.heap)))))))
+
+-- A state's text after another, over the arrays and, where they are the layout of a state that keeps to a module, with that module's tables, as the model's
+-- text of that state.
+pub record Says (methods fields types : List ℕ) (s : State) (before after : Text) : Type 0 where
+  pub same_buffer : after.out.ghost_name ≡ before.out.ghost_name
+  pub text : after ≡ appended before (whole_text methods fields types s)
+  pub model : (M : Module) (code : List ℕ) (L : Loaded) (statics : List ℕ) (e : Model.State) → Holds M code L → L.methods ≡ methods → L.fields ≡ fields
+      → Fine M → HoldsTypes M types statics → Keeps M e → s ≡ lay_out e → after ≡ appended before (state_text M e)
 
 -- What is appended: for all arrays the text of what is read from them, and where they are the layout of a state that keeps to a module, with that module's
 -- tables, the model's text of that state.

@@ -1,77 +1,83 @@
-// One cell as text. A reading at an index that is not there gives 0, so no function of this crate has a `requires`.
-ghost use Rattle.std.specs.Prelude.{◌≡◌, ◌++◌};
-ghost use Rattle.model.specs.Replay.{cell_text};
-ghost use Rattle.state.specs.View.{refer_to, value_by};
-ghost use Rattle.line.specs.Append.{Appended};
+// One cell as text, and the cells of a row. A reading at an index that is not there gives 0, so no function of this crate has a `requires`.
+ghost use Rattle.std.specs.Prelude.{◌≡◌, ◌*◌, ◌++◌, take, drop, get_or};
+ghost use Rattle.model.specs.Replay.{cell_text, cell_texts};
+ghost use Rattle.state.specs.View.{refer_to, span, value_by};
+ghost use Rattle.line.specs.Append.{appended};
 ghost use Rattle.state_text.specs.Texts.{value_in, comma as comma_text};
 
-use line::numbers::{decimal, hex, put, signed};
+use line::text::Text;
 
-// A byte as a row or a count.
-pub fn wide(b: u8) -> usize
-    ensures { result ≡ b }
+// What stands at an index, or `none`.
+pub fn at<T: Copy>(cells: &[T], i: usize, none: T) -> T
+    ensures { result ≡ get_or cells.now i none }
 {
-    b as usize
+    cells.get(i).copied().unwrap_or(none)
+}
+
+// A part of some cells, as far as they go.
+pub fn part<T>(cells: &[T], start: usize, size: usize) -> &[T]
+    ensures { result.now ≡ take size (drop start cells.now) }
+{
+    let rest = &cells[start.min(cells.len())..];
+    &rest[..size.min(rest.len())]
+}
+
+// A row of cells that stand in rows of a width, or none.
+pub fn row_of<T>(cells: &[T], width: usize, row: usize) -> &[T]
+    ensures { result.now ≡ take width (drop (row * width) cells.now) }
+{
+    part(cells, row.saturating_mul(width), width)
 }
 
 // A reference: null, or its object's number.
-fn reference(out: &mut [u8], at: usize, bits: u64) -> usize
-    ensures { Appended out.old at (cell_text (refer_to bits)) out.new result }
+fn reference(text: &mut Text, bits: u64)
+    ensures { text.new ≡ appended text.old (cell_text (refer_to bits)) }
 {
     if bits == 0 {
-        return put(out, at, b'n');
+        text.put(b'n');
+    } else {
+        text.put(b'o');
+        text.decimal(bits);
     }
-    let next = put(out, at, b'o');
-    decimal(out, next, bits)
-}
-
-fn int32(out: &mut [u8], at: usize, bits: u64) -> usize
-    ensures { Appended out.old at (cell_text (value_by 1 bits)) out.new result }
-{
-    let next = put(out, at, b'i');
-    signed(out, next, false, bits)
-}
-
-fn int64(out: &mut [u8], at: usize, bits: u64) -> usize
-    ensures { Appended out.old at (cell_text (value_by 2 bits)) out.new result }
-{
-    let next = put(out, at, b'l');
-    signed(out, next, true, bits)
-}
-
-fn real(out: &mut [u8], at: usize, bits: u64) -> usize
-    ensures { Appended out.old at (cell_text (value_by 3 bits)) out.new result }
-{
-    let next = put(out, at, b'f');
-    hex(out, next, 16, bits)
 }
 
 // A cell by its kind or its declared type: 1 int32, 2 int64, 3 F, any other a reference.
-pub fn cell(out: &mut [u8], at: usize, kind: u8, bits: u64) -> usize
-    ensures { Appended out.old at (cell_text (value_in kind bits)) out.new result }
+pub fn cell(text: &mut Text, kind: u8, bits: u64)
+    ensures { text.new ≡ appended text.old (cell_text (value_in kind bits)) }
 {
     match kind {
-        1 => int32(out, at, bits),
-        2 => int64(out, at, bits),
-        3 => real(out, at, bits),
-        _ => reference(out, at, bits),
+        1 => {
+            text.put(b'i');
+            text.signed(false, bits);
+        }
+        2 => {
+            text.put(b'l');
+            text.signed(true, bits);
+        }
+        3 => {
+            text.put(b'f');
+            text.hex(16, bits);
+        }
+        _ => reference(text, bits),
     }
 }
 
 // A comma before every one but the first.
-pub fn comma(out: &mut [u8], at: usize, first: bool) -> usize
-    ensures { Appended out.old at (comma_text first) out.new result }
+#[tactic(auto, using(line::proofs::Appending::added_none), unfolding(crate::specs::Texts::comma))]
+pub fn comma(text: &mut Text, first: bool)
+    ensures { text.new ≡ appended text.old (comma_text first) }
 {
-    if first {
-        return at;
+    if !first {
+        text.put(b',');
     }
-    put(out, at, b',')
 }
 
-// A cell of a row of cells that are joined by commas.
-pub fn joined(out: &mut [u8], at: usize, first: bool, kind: u8, bits: u64) -> usize
-    ensures { Appended out.old at (comma_text first ++ cell_text (value_in kind bits)) out.new result }
+// The first `count` cells of a row, joined by commas.
+pub fn cells(text: &mut Text, kinds: &[u8], bits: &[u64], count: usize)
+    ensures { text.new ≡ appended text.old (cell_texts (span (λ i. value_in (get_or kinds.now i 0) (get_or bits.now i 0)) 0 count)) }
 {
-    let next = comma(out, at, first);
-    cell(out, next, kind, bits)
+    for i in 0..count {
+        comma(text, i == 0);
+        cell(text, at(kinds, i, 0), at(bits, i, 0));
+    }
 }

@@ -6,11 +6,14 @@ use Prim.Native.Nat.{ℕ, ◌+◌, ◌*◌, ◌≤◌, ◌<◌}
 use native.Mathlib.Numerals.{add-one}
 use native.Mathlib.Omega.{arith}
 use lib.ListN.{length, take, get_or, length-append, length-take}
-use lib.Seq.{sets, take-suc, take_all}
+use lib.Seq.{sets, take-suc}
 use Rattle.model.specs.Operators.{flag}
 use Rattle.model.specs.Turn.{decimal, space}
-use Rattle.line.specs.Append.{Appended}
-use Rattle.line.proofs.Appending.{same, then}
+use Rattle.line.specs.Append.{appended, Appended}
+use Rattle.line.specs.declared.text.Text.{Text}
+use mathlib.Core.Bool.{Bool, true, false}
+use Rattle.std.specs.Int.{from_bool}
+use Rattle.line.proofs.Appending.{added_then, same}
 use Rattle.line.proofs.Spelling.{decimal_length}
 use Rattle.std.specs.Prelude.{Option, Result}
 use Rattle.loaded.specs.declared.Fault.{Fault}
@@ -30,29 +33,25 @@ unfolding spaced
 one n = simp append-nil
 
 -- the next of the numbers
-pub further : {s s' s'' : List ℕ} {at at' at'' : ℕ} (l : List ℕ) (i : ℕ) → i < length l
-    → Appended s at (spaced (take i l)) s' at' → Appended s' at' (space ++ decimal (get_or l i 0)) s'' at'' → Appended s at (spaced (take (i + 1) l)) s'' at''
-further l i h a b =
+pub further : (a b c d : Text) (l : List ℕ) (i : ℕ) → i < length l → b ≡ appended a (spaced (take i l)) → c ≡ appended b space
+    → d ≡ appended c (decimal (get_or l i 0)) → d ≡ appended a (spaced (take (i + 1) l))
+further a b c d l i h p q r =
     let e = ap (λ (k : ℕ). spaced (take k l)) (add-one i) ∙ ap spaced (take-suc l i 0 h) ∙ spaced_append (take i l) (get_or l i 0 ∷ []) in
-    same (ap (λ (m : List ℕ). spaced (take i l) ++ m) (one (get_or l i 0)) ∙ sym e) (then a b)
-
--- all of them
-pub through : {s s' : List ℕ} {at at' : ℕ} (l : List ℕ) (i : ℕ) → length l ≤ i → Appended s at (spaced (take i l)) s' at'
-    → Appended s at (spaced l) s' at'
-through l i h a = same (ap spaced (take_all i l h)) a
+    same a d _ _ (added_then a b d _ _ p (added_then b c d _ _ q r)) (ap (λ (m : List ℕ). spaced (take i l) ++ m) (one (get_or l i 0)) ∙ sym e)
 
 -- ---- The line
 
--- what is written of an answer
-abbrev pub Told : Type 0
-Told = Result (Option Found) Fault
+flag_is : (b : Bool) → flag b ≡ from_bool b
+unfolding flag
+flag_is true = refl
+flag_is false = refl
 
-pub in_order : (t : Told) {f : Fault} {s : Bool × ℕ × List ℕ} {n starts : ℕ} → f ≡ numbered t → s ≡ seen t → n ≡ f.number → starts ≡ flag s.0
-    → ((((((decimal n ++ space) ++ (decimal f.method ++ space)) ++ (decimal f.offset ++ space))
-    ++ (decimal starts ++ space)) ++ decimal s.1) ++ spaced (take s.1 s.2)) ++ (10 ∷ [])
+pub in_order : (t : Told)
+    → ((((((decimal t.fault.number ++ space) ++ (decimal t.fault.method ++ space)) ++ (decimal t.fault.offset ++ space))
+    ++ (decimal (from_bool t.found.starts) ++ space)) ++ decimal t.found.depth) ++ spaced (take t.found.depth t.found.types)) ++ (10 ∷ [])
     ≡ line_of t
 unfolding line_of spaced
-in_order t e q n b = rw (n, b, e, q) (simp append_assoc)
+in_order t = rw (flag_is t.found.starts) (simp append_assoc)
 
 spaced_length : (l : List ℕ) → length (spaced l) ≤ 21 * length l
 unfolding spaced space

@@ -25,8 +25,9 @@ use Rattle.checker.specs.Bounded.{Bounded}
 use Rattle.checker.specs.Answers.{Answers, fault_of}
 use Rattle.line.specs.Append.{Alone}
 use Rattle.line.specs.Values.{value_of}
-use Rattle.line.specs.Announced.{answered}
-use Rattle.line.specs.declared.input.Input.{Input}
+use Rattle.line.specs.Announced.{answered, number_of}
+use Rattle.line.specs.declared.input.Refused.{Refused}
+use Rattle.std.specs.Prelude.{Result, Ok, Err}
 use Rattle.runner.specs.Answers.{told, refused_by}
 use Rattle.runner.specs.Answers as Ran
 use Rattle.runner.specs.declared.Ended.{Ended}
@@ -107,20 +108,16 @@ module _ (tables code : List ℕ) where
 
 -- ---- What the input announces
 
-module _ (r : Input) (input : List ℕ) (says : answered r input ≡ answer input) where
-  announced_as : (k : Input) → r ≡ k → print (line_of (answered k input)) ≡ turn input
+module _ (r : Result ℕ Refused) (input : List ℕ) (says : answered r input ≡ answer input) where
+  announced_as : (k : Result ℕ Refused) → r ≡ k → print (line_of (answered k input)) ≡ turn input
   unfolding turn
-  announced_as k e = ap (λ (x : Answer Model.Fault Run.Ended). print (line_of x)) (sym (ap (λ (x : Input). answered x input) e) ∙ says)
+  announced_as k e = ap (λ (x : Answer Model.Fault Run.Ended). print (line_of x)) (sym (ap (λ (x : Result ℕ Refused). answered x input) e) ∙ says)
 
-  pub cut_line : r ≡ Input.Cut → print (line 9 0 0 0 none) ≡ turn input
+  pub refused_line : (k : Refused) → r ≡ Err k → (n : ℕ) → n ≡ number_of k → print (line n 0 0 0 none) ≡ turn input
   unfolding answered line_of fault_line fault_in refusal
-  cut_line e = announced_as Input.Cut e
+  refused_line k e n p = rw p (announced_as (Err k) e)
 
-  pub long_line : r ≡ Input.TooLong → print (line 1 0 0 0 none) ≡ turn input
-  unfolding answered line_of fault_line fault_in refusal
-  long_line e = announced_as Input.TooLong e
-
-  pub parts_line : (at : ℕ) → r ≡ Input.Parts at → {tables code : List ℕ} → tables ≡ take (at - 2) (drop 2 input) → code ≡ drop at input
+  pub parts_line : (at : ℕ) → r ≡ Ok at → {tables code : List ℕ} → tables ≡ take (at - 2) (drop 2 input) → code ≡ drop at input
       → print (line_of (play tables code)) ≡ turn input
   unfolding answered
-  parts_line at e p q = rw (p, q) (announced_as (Input.Parts at) e)
+  parts_line at e p q = rw (p, q) (announced_as (Ok at) e)

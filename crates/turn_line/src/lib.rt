@@ -8,18 +8,13 @@ ghost use Rattle.model.specs.Turn.{line_of, print, play, turn as turn_of};
 ghost use Rattle.line.specs.Append.{Alone};
 
 use checker::check;
-use line::input::{Input, announced, code_of, tables_of};
+use line::input::{announced, code_of, tables_of};
 use line::line::{Value, line};
 use loader::load;
 use runner::run;
 
 // The steps of a run at most.
 const BUDGET: u64 = 100000;
-
-// What refuses an input that is cut short, and one that is too long.
-const CUT: u8 = 9;
-
-const TOO_LONG: u8 = 1;
 
 // A fault has neither steps nor a value.
 fn fault_line(number: u8, method: usize, offset: usize, out: &mut [u8; 128]) -> usize
@@ -60,8 +55,7 @@ pub fn turn(input: &[u8], out: &mut [u8; 128]) -> usize
     ensures room { result ≤ 128 }
 {
     match announced(input) {
-        Input::Cut => fault_line(CUT, 0, 0, out),
-        Input::TooLong => fault_line(TOO_LONG, 0, 0, out),
-        Input::Parts(at) => played(tables_of(input, at), code_of(input, at), out),
+        Ok(start) => played(tables_of(input, start), code_of(input, start), out),
+        Err(refused) => fault_line(u8::from(refused), 0, 0, out),
     }
 }

@@ -1,12 +1,8 @@
-use mathlib.Core.Path.{◌≡◌}
-use Prim.Native.Nat.{◌-◌, ◌≤◌}
-use lib.ListN.{length, take}
-use Rattle.line.specs.Append.{Appended}
+use Rattle.std.proofs.Common.{◌≡◌, take}
+use Rattle.line.specs.Append.{appended}
 use Rattle.tell_line.specs.Shapes.{spaced}
 use Rattle.tell_line.proofs.spaced.Given as goal
 
-abbrev pub invariant-loop-i : goal.invariant-loop-i
-invariant-loop-i l = (l.i ≤ length l.numbers) × Appended l.initial.out l.at (spaced (take l.i l.numbers)) l.out l.next × (length l.out ≡ length l.initial.out)
-
-abbrev pub decreases-loop-i : goal.decreases-loop-i
-decreases-loop-i l = length l.numbers - l.i
+-- what is appended so far is for the numbers below
+abbrev pub invariant-loop-n : goal.invariant-loop-n
+invariant-loop-n l = l.text ≡ appended l.initial.text (spaced (take l.n-index l.numbers))

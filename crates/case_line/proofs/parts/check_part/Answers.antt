@@ -1,6 +1,6 @@
 -- `check_part` meets its contract: the word, then three numbers.
 use Rattle.model.specs.Replay.{word_check}
-use Rattle.line.proofs.Appending.{same, then}
+use Rattle.line.proofs.Appending.{added_then, same}
 use Rattle.case_line.specs.Texts.{strike}
 use Rattle.case_line.proofs.Lines.{check_text_lem}
 use Rattle.case_line.proofs.parts.check_part.Goals as goal
@@ -8,9 +8,5 @@ use Rattle.case_line.proofs.parts.check_part.Goals as goal
 pub returns : goal.returns
 unfolding word_check strike
 returns c =
-    let z = c in
-    let y = z in
-    let x = y in
-    let w = x in
-    same (check_text_lem w.args.f x.wide.ensures)
-    (then (then (then w.word-a.ensures x.number-b.ensures) y.number-c.ensures) z.number.ensures)
+    let method = added_then _ _ _ _ _ (added_then _ _ _ _ _ c.word.ensures c.number.ensures) c.number-2.ensures in
+    same _ _ _ _ (added_then _ _ _ _ _ method c.number-3.ensures) (check_text_lem c.args.f)

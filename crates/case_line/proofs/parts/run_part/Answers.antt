@@ -1,7 +1,7 @@
 -- `run_part` meets its contract: the word, four numbers, the value, and the bar.
 use Rattle.model.specs.Replay.{word_run, bar}
 use Rattle.line.specs.Values.{value_of}
-use Rattle.line.proofs.Appending.{same, then}
+use Rattle.line.proofs.Appending.{added_then, same}
 use Rattle.case_line.specs.Texts.{strike}
 use Rattle.case_line.proofs.Lines.{run_text_lem}
 use Rattle.case_line.proofs.parts.run_part.Goals as goal
@@ -9,14 +9,7 @@ use Rattle.case_line.proofs.parts.run_part.Goals as goal
 pub returns : goal.returns
 unfolding word_run strike bar
 returns c =
-    let z = c in
-    let y = z in
-    let x = y in
-    let w = x in
-    let v = w in
-    let u = v in
-    let t = u in
-    let a = t.args in
-    same (run_text_lem a.f u.wide.ensures a.steps (value_of a.value))
-    (then (then (then (then (then (then t.word-a.ensures u.number-b.ensures) v.number-c.ensures) w.number-d.ensures)
-    x.number-e.ensures) y.value_text-g.ensures) z.word.ensures)
+    let method = added_then _ _ _ _ _ (added_then _ _ _ _ _ c.word.ensures c.number.ensures) c.number-2.ensures in
+    let steps = added_then _ _ _ _ _ (added_then _ _ _ _ _ method c.number-3.ensures) c.number-4.ensures in
+    same _ _ _ _ (added_then _ _ _ _ _ (added_then _ _ _ _ _ steps c.value.ensures) c.word-2.ensures)
+    (run_text_lem c.args.f c.args.steps (value_of c.args.value))

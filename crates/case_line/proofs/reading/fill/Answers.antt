@@ -1,4 +1,4 @@
--- `fill` meets its contract: what is filled so far are the first numbers.
+-- `fill` meets its contract.
 use mathlib.Core.Path.{◌≡◌, refl, ap, ◌∙◌}
 use native.Mathlib.Omega.{arith}
 use lib.ListN.{length-set}
@@ -9,23 +9,16 @@ use Rattle.case_line.proofs.reading.fill.Goals as goal
 
 pub loop-i-init : goal.loop-i-init
 unfolding words_of
-loop-i-init c = (omega arith, c.requires.words_len, refl)
-
-pub after-requires : goal.after-requires
-after-requires c = tt
-
-pub little8-requires : goal.little8-requires
-little8-requires c = tt
+loop-i-init c = (c.requires.words_len, refl)
 
 pub loop-i-preserved : goal.loop-i-preserved
 loop-i-preserved c =
-    let t = c in
-    let inv = t.loop-i.invariant in (
-      omega arith,
-      simp length-set inv.1,
-      next_word _ _ _ _ (omega (arith, inv.1)) (c.little8.ensures ∙ ap (little 8) c.after.ensures) inv.2,
+    let inv = c.loop-i.invariant in (
+      simp length-set inv.0,
+      next_word _ _ _ _ (omega (arith, inv.0)) (c.little8.ensures ∙ ap (little 8) c.after.ensures) inv.1,
     )
 
 pub returns : goal.returns
-returns c = let e : c.loop-i.i ≡ c.args.count = omega arith in
-    record { words_len = c.loop-i.invariant.1; take_is = rw e at c.loop-i.invariant.2 }
+returns c =
+    let e : c.loop-i.i ≡ c.args.count = omega arith in
+    record { words_len = c.loop-i.invariant.0; take_is = rw e at c.loop-i.invariant.1 }

@@ -1,32 +1,29 @@
--- `objects` meets its contract. What is appended so far is the text of the places below.
-use borrow.Author.Rules.{rules}
-use mathlib.Core.Path.{refl, ap, ◌∙◌}
-use mathlib.Core.List.{[], ◌∷◌}
+-- `objects` meets its contract.
+use Rattle.std.proofs.Common.{◌∙◌, ◌≡◌, ◌∷◌, [], ℕ, ap, arith}
+use mathlib.Core.Option.{Option}
+use Rattle.model.specs.State.{Object}
 use Rattle.model.specs.Replay.{heap_text}
 use Rattle.state.specs.View.{span}
-use Rattle.line.proofs.Appending.{same, nothing}
-use Rattle.state_text.specs.Texts.{place_of, place_in, heap_in}
-use Rattle.state_text.proofs.Joining.{place_more, all_of}
+use Rattle.line.specs.Append.{appended}
+use Rattle.line.proofs.Appending.{added_none, same}
+use Rattle.state_text.specs.Texts.{place_in, heap_in}
+use Rattle.state_text.proofs.Joining.{place_more}
+use Rattle.state_text.proofs.Reading.{place_read}
 use Rattle.state_text.proofs.members.objects.Goals as goal
 
 pub loop-place-init : goal.loop-place-init
 unfolding heap_text span
-loop-place-init c = (search rules, nothing _ _, refl)
+loop-place-init c = added_none _
 
 pub loop-place-preserved : goal.loop-place-preserved
-unfolding place_in
 loop-place-preserved c =
-    let inv = c.loop-place.invariant in
-    let a = c.args in
-    let e = ap (λ k. heap_text (place_of a.types.now a.heap.now c.loop-place.place k ∷ [])) c.class_at.ensures in
-    (search rules, place_more (place_in a.classes.now a.types.now a.heap.now) _ inv.1 (same e c.object-next.ensures), c.object-next.auto.out ∙ inv.2)
-
-pub shape_of-out : goal.shape_of-out
-shape_of-out c = c.loop-place.invariant.2
+    let s = c.args in
+    let read = ap (λ (o : Option Object). heap_text (o ∷ [])) (place_read s.classes.now s.types.now s.heap.now c.loop-place.place c.told-classes) in
+    place_more _ _ _ (place_in s.classes.now s.types.now s.heap.now) _ c.loop-place.invariant (same _ _ _ _ c.object.ensures read)
 
 pub returns : goal.returns
 unfolding heap_in
 returns c =
-    let inv = c.loop-place.invariant in
-    let a = c.args in
-    all_of (λ k. heap_text (span (place_in a.classes.now a.types.now a.heap.now) 0 k)) _ _ inv.0 c.loop-place-test.false inv.1
+    let s = c.args in
+    let e : c.loop-place.place ≡ 256 = omega arith in
+    c.loop-place.invariant ∙ ap (λ (k : ℕ). appended s.text.now (heap_text (span (place_in s.classes.now s.types.now s.heap.now) 0 k))) e

@@ -1,34 +1,38 @@
--- `statics` meets its contract. What is appended so far is the text of the rows below, and `first` says whether it is none.
-use borrow.Author.Rules.{rules}
-use mathlib.Core.Path.{refl, ap, ◌∙◌}
+-- `statics` meets its contract.
+use Rattle.std.proofs.Common.{◌∙◌, ◌≡◌, ℕ, ap, arith, refl, sym}
 use Rattle.model.specs.Answer.{is_nil}
-use mathlib.Core.List.{◌∷◌, ◌++◌}
-use Rattle.model.specs.Turn.{decimal}
-use Rattle.model.specs.Replay.{cell_text, commas}
-use Rattle.line.proofs.Appending.{nothing}
-use Rattle.state_text.specs.Texts.{one_of, value_in, up_to, static_text, static_at}
-use Rattle.state_text.proofs.Joining.{nil_more, text_more, all_of}
-use Rattle.state_text.proofs.Reading.{static_said}
+use Rattle.model.specs.Replay.{commas}
+use Rattle.line.specs.Append.{appended}
+use Rattle.line.proofs.Appending.{added_none, added_then}
+use Rattle.state_text.specs.Texts.{up_to, static_at}
+use Rattle.state_text.proofs.Joining.{row_said, row_unsaid}
+use Rattle.state_text.proofs.Reading.{static_there, static_gone}
 use Rattle.state_text.proofs.members.statics.Goals as goal
+use Rattle.state_text.proofs.members.statics.Goals.{then-at-eq1, else-at-eq1}
 
 pub loop-row-init : goal.loop-row-init
 unfolding up_to commas is_nil
-loop-row-init c = (search rules, refl, nothing _ _, refl)
+loop-row-init c = record { text = added_none _; first = refl }
 
 pub loop-row-preserved : goal.loop-row-preserved
-unfolding static_at static_text
 loop-row-preserved c =
-    let inv = c.loop-row.invariant in
-    let a = c.args in
-    let F = static_at a.fields.now a.bits.now in
-    let e = static_said F _ _ _ _ refl c.of_field-flag.ensures c.of_field-in-loop-row.ensures (c.static_at.ensures ∙ ap (one_of 64 a.bits.now) (c.wide-slot.ensures ∙ c.of_field.ensures)) in
-    (search rules, c.none_yet-first.ensures ∙ nil_more F _ _ _ _ e inv.1, text_more F _ c.of_field-flag.result (decimal c.loop-row.row ++ (58 ∷ cell_text (value_in c.of_field-in-loop-row.result c.static_at.result))) _ e inv.1 inv.2 c.static_field-next.ensures, c.static_field-next.auto.out ∙ inv.3)
-
-pub shape_of-out : goal.shape_of-out
-shape_of-out c = c.loop-row.invariant.3
+    let s = c.args in
+    let row = c.loop-row.row in
+    let before = c.loop-row.invariant in
+    let F = static_at s.fields.now s.bits.now in
+    elim c.if-at-eq1.branch [
+      | then-at-eq1 w ↦
+          let there = static_there s.fields.now s.bits.now row c.told-fields c.told-bits _ c.row_of-field.ensures (sym c.at.ensures ∙ w.if-at-eq1.true) in
+          let said = rw (w.at-then-at-eq1-3.ensures, w.at-then-at-eq1-2.ensures, w.at-then-at-eq1.ensures) at w.cell.ensures in
+          let both = row_said F row _ _ _ before.first before.text _ _ there (added_then _ _ _ _ _ w.comma.ensures (added_then _ _ _ _ _ w.decimal.ensures (added_then _ _ _ _ _ w.put.ensures said))) in
+          record { text = w.text-is ∙ both.0; first = w.first-is ∙ both.1 }
+      | else-at-eq1 w ↦
+          let gone = static_gone s.fields.now s.bits.now row c.told-fields c.told-bits _ c.row_of-field.ensures (λ e. w.if-at-eq1.false (c.at.ensures ∙ e)) in
+          let both = row_unsaid F row _ _ _ before.first before.text gone in
+          record { text = w.text-is ∙ both.0; first = w.first-is ∙ both.1 }
+    ]
 
 pub returns : goal.returns
 returns c =
-    let inv = c.loop-row.invariant in
-    let a = c.args in
-    all_of (λ k. commas (up_to (static_at a.fields.now a.bits.now) k)) _ _ inv.0 c.loop-row-test.false inv.2
+    let e : c.loop-row.row ≡ 129 = omega arith in
+    c.loop-row.invariant.text ∙ ap (λ (k : ℕ). appended c.args.text.now (commas (up_to (static_at c.args.fields.now c.args.bits.now) k))) e
