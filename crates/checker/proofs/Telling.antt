@@ -12,9 +12,9 @@ use Rattle.model.specs.Tables.{byte_of, Method, Module}
 use Rattle.model.specs.Check.{Shape, Shapes, check_method, check_methods, check_module, found_at}
 use Rattle.model.proofs.Hoare.{ok_eq, bind_inv, blame_inv}
 use Rattle.shapes.specs.Pool.{Pool, Fine, Shows}
-use Rattle.shapes.proofs.Showing.{height, used, not_none}
+use Rattle.shapes.proofs.Showing.{height}
 use Rattle.shapes.proofs.Replies.{one}
-use Rattle.visits.specs.Found.{Stands, Kept}
+use Rattle.visits.specs.Found.{Kept}
 use Rattle.checker.specs.declared.tell.Found.{Found}
 use Rattle.checker.specs.Told.{bottom_up, told}
 
@@ -80,31 +80,6 @@ module _ (P : Pool) (S : Shape) (n x : ℕ) (types : List ℕ) (t : Telling P S 
 module _ (P : Pool) (n : ℕ) (F : Shapes) (found : List ℕ) (k : Kept P n F found) (o : ℕ) where
   pub past_none : n ≤ o → get_or F o none ≡ none
   past_none h = get_or-eq_default F none (rw k.size h)
-
-  module _ (f : Fine P) (h : o < n) (s : ℕ) (e : s ≡ get_or found o 0 % 2048) where
-    -- the number is what stands there
-    kept_number : (S : Shape) → Shows P S (get_or found o 0) → (s ≡ get_or found o 0) × (0 < s)
-    kept_number S w =
-        let u : get_or found o 0 < P.made = used P S (get_or found o 0) f w in
-        let l : P.made ≤ 2048 = f.few in
-        let z : 0 < get_or found o 0 = not_none P S (get_or found o 0) w in
-        (omega arith, omega arith)
-
-    pub none_told : s ≡ 0 → get_or F o none ≡ none
-    unfolding Stands
-    none_told z = go (get_or F o none) (k.at o h)
-      where
-        go : (R : ModelOption Shape) → Stands P (get_or found o 0) R → R ≡ none
-        go none w = refl
-        go (some S) w = let l : 0 < s = (kept_number S w).1 in absurd (omega arith)
-
-    pub some_told : (s ≡ 0 → ⊥) → (S : Shape) × (get_or F o none ≡ some S) × Shows P S s
-    unfolding Stands
-    some_told z = go (get_or F o none) refl (k.at o h)
-      where
-        go : (R : ModelOption Shape) → get_or F o none ≡ R → Stands P (get_or found o 0) R → (S : Shape) × (get_or F o none ≡ some S) × Shows P S s
-        go none q w = let v : get_or found o 0 ≡ 0 = w in absurd (z (omega arith))
-        go (some S) q w = (S, q, subst (λ (x : ℕ). Shows P S x) (sym (kept_number S w).0) w)
 
 -- ---- By row
 

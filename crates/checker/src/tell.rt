@@ -15,9 +15,10 @@ use super::{MOST_METHODS, method_at};
 use loaded::Loaded;
 use loaded::columns::{LENGTH, PART};
 use shapes::fit::wide;
-use shapes::shape::{SHAPES, below};
+use shapes::shape::below;
 use visits::notes::{Notes, Pool};
 use visits::tables::Tables;
+use visits::visit;
 
 // The most types of a shape.
 const MOST_STACK: usize = 32;
@@ -55,10 +56,7 @@ fn found_at(notes: &Notes, size: usize, offset: usize) -> Option<Found>
     if size <= offset {
         return None;
     }
-    let s = (*notes.found.get(offset)? % SHAPES) as usize;
-    if s == 0 {
-        return None;
-    }
+    let s = visit::found_at(&notes.found, offset)?;
     types_of(&notes.pool, s)
 }
 

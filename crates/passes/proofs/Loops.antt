@@ -20,7 +20,7 @@ use Rattle.code.proofs.Sizes.{Decodes, a_size}
 use Rattle.std.specs.Prelude.{Result, Ok, Err, ⊤}
 use Rattle.shapes.specs.Pool.{Pool, Fine}
 use Rattle.visits.specs.declared.fault.FaultKind.{FaultKind}
-use Rattle.visits.specs.declared.fault.FaultKind.TheVariants.{Undecodable, Operand, TooFew, TooMany, WrongType, OtherShape, FallsPast}
+use Rattle.visits.specs.declared.fault.FaultKind.TheVariants.{Undecodable, Operand}
 use Rattle.visits.specs.Faults.{number}
 use Rattle.passes.specs.declared.pass.FaultAt.{FaultAt}
 use Rattle.visits.specs.Found.{Stands, Kept, Starts, Went, WentBy}
@@ -268,59 +268,49 @@ pub record WentTo {A : Type 0} (P : Pool) (n : ℕ) (l : List ℕ) (f : A → An
   pub answer : f what ≡ ok shapes
   pub kept : Kept P n shapes l
 
-went_zero : {A : Type 0} (P : Pool) (n r : ℕ) (l : List ℕ) (f : A → Answer ℕ Shapes) (o : Option A) → WentBy P n r l f o → r ≡ 0 → WentTo P n l f o
+went_ok : {A : Type 0} (P : Pool) (n : ℕ) (r : Result ⊤ FaultKind) (l : List ℕ) (f : A → Answer ℕ Shapes) (o : Option A) → WentBy P n r l f o → r ≡ Ok tt
+    → WentTo P n l f o
 unfolding WentBy Went
-went_zero P n r l f none h e = absurd (omega arith)
-went_zero P n r l f (some a) h e = go (f a) refl h
+went_ok P n r l f none h e = let z : r ≡ Err Operand = h in absurd (cc)
+went_ok P n r l f (some a) h e = go (f a) refl h
   where
     go : (B : Answer ℕ Shapes) → f a ≡ B → Went P n r l B → WentTo P n l f (some a)
-    go (bad k) q h = let x : r ≡ k = h.0 in let y : 12 < k = h.1 in absurd (omega arith)
+    go (bad k) q h = let z : r ≡ Err h.0 = h.1 in absurd (cc)
     go (ok F) q h = record { what = a; shapes = F; is = refl; answer = q; kept = h.1 }
 
-went_twelve : {A : Type 0} (P : Pool) (n r : ℕ) (l : List ℕ) (f : A → Answer ℕ Shapes) (o : Option A) → WentBy P n r l f o → r ≡ 12 → o ≡ none
+went_operand : {A : Type 0} (P : Pool) (n : ℕ) (r : Result ⊤ FaultKind) (l : List ℕ) (f : A → Answer ℕ Shapes) (o : Option A) → WentBy P n r l f o
+    → r ≡ Err Operand → o ≡ none
 unfolding WentBy Went
-went_twelve P n r l f none h e = refl
-went_twelve P n r l f (some a) h e = absurd (go (f a) h)
+went_operand P n r l f none h e = refl
+went_operand P n r l f (some a) h e = absurd (go (f a) h)
   where
     go : (B : Answer ℕ Shapes) → Went P n r l B → ⊥
-    go (bad k) h = let x : r ≡ k = h.0 in let y : 12 < k = h.1 in omega arith
-    go (ok F) h = let x : r ≡ 0 = h.0 in omega arith
+    go (bad k) h =
+        let z : r ≡ Err h.0 = h.1 in
+        let q : h.0 ≡ Operand = cc in
+        let x : number h.0 ≡ 12 = ap number q in
+        let y : number h.0 ≡ k = h.2 in
+        let w : 12 < k = h.3 in
+        omega arith
+    go (ok F) h = let z : r ≡ Ok tt = h.0 in absurd (cc)
 
--- a fault has a number
-some_number : (kind : FaultKind) → number kind ≡ 0 → ⊥
-some_number Undecodable e = omega arith
-some_number Operand e = omega arith
-some_number TooFew e = omega arith
-some_number TooMany e = omega arith
-some_number WrongType e = omega arith
-some_number OtherShape e = omega arith
-some_number FallsPast e = omega arith
-
-pub only_operand : (kind : FaultKind) → number kind ≡ 12 → kind ≡ Operand
-only_operand Undecodable e = absurd (omega arith)
-only_operand Operand e = refl
-only_operand TooFew e = absurd (omega arith)
-only_operand TooMany e = absurd (omega arith)
-only_operand WrongType e = absurd (omega arith)
-only_operand OtherShape e = absurd (omega arith)
-only_operand FallsPast e = absurd (omega arith)
-
-pub record Failed {A : Type 0} (r : ℕ) (f : A → Answer ℕ Shapes) (o : Option A) : Type 0 where
+pub record Failed {A : Type 0} (k : ℕ) (f : A → Answer ℕ Shapes) (o : Option A) : Type 0 where
   pub what : A
   pub is : o ≡ some what
-  pub answer : f what ≡ bad r
-  pub high : 12 < r
-  pub low : r < 18
+  pub answer : f what ≡ bad k
 
-went_fault : {A : Type 0} (P : Pool) (n r : ℕ) (l : List ℕ) (f : A → Answer ℕ Shapes) (o : Option A) → WentBy P n r l f o → (r ≡ 0 → ⊥) → (r ≡ 12 → ⊥)
-    → Failed r f o
+went_fault : {A : Type 0} (P : Pool) (n : ℕ) (r : Result ⊤ FaultKind) (kind : FaultKind) (l : List ℕ) (f : A → Answer ℕ Shapes) (o : Option A)
+    → WentBy P n r l f o → r ≡ Err kind → (kind ≡ Operand → ⊥) → Failed (number kind) f o
 unfolding WentBy Went
-went_fault P n r l f none h e g = absurd (g h)
-went_fault P n r l f (some a) h e g = go (f a) refl h
+went_fault P n r kind l f none h e g = let z : r ≡ Err Operand = h in absurd (g (cc))
+went_fault P n r kind l f (some a) h e g = go (f a) refl h
   where
-    go : (B : Answer ℕ Shapes) → f a ≡ B → Went P n r l B → Failed r f (some a)
-    go (bad k) q h = record { what = a; is = refl; answer = q ∙ ap bad (sym h.0); high = rw h.0 h.1; low = rw h.0 h.2 }
-    go (ok F) q h = absurd (e h.0)
+    go : (B : Answer ℕ Shapes) → f a ≡ B → Went P n r l B → Failed (number kind) f (some a)
+    go (bad k) q h =
+        let z : r ≡ Err h.0 = h.1 in
+        let y : h.0 ≡ kind = cc in
+        record { what = a; is = refl; answer = q ∙ ap bad (sym h.2 ∙ ap number y) }
+    go (ok F) q h = let z : r ≡ Ok tt = h.0 in absurd (cc)
 
 module _ (M : Module) (m : Method) (all : List (Site Ins)) (code : List ℕ) (P : Pool) (found : List ℕ) (at : ℕ) (s : Going M m all code P found at) where
   ended : (l : List (Site Ins)) → l ≡ [] → onward M m all l s.shapes ≡ ok s.shapes
@@ -335,7 +325,7 @@ module _ (M : Module) (m : Method) (all : List (Site Ins)) (code : List ℕ) (P 
       (rw e refl, record { shapes = s.shapes; is = e; fine = s.fine; kept = s.kept })
 
   module _ (k : at < length code) (i : Insn) (e : decode code at ≡ some (record { ins = ins_of i; next = i.next })) (x : at < i.next)
-      (Q : Pool) (l : List ℕ) (r : ℕ) (v : Visits M m all s.shapes at i (length code) r l Q) where
+      (Q : Pool) (l : List ℕ) (r : Result ⊤ FaultKind) (v : Visits M m all s.shapes at i (length code) r l Q) where
     pub after : Follows code at (record { ins = ins_of i; next = i.next }) s.left
     after = follows code at s.left s.rest k (record { ins = ins_of i; next = i.next }) e x
 
@@ -343,22 +333,23 @@ module _ (M : Module) (m : Method) (all : List (Site Ins)) (code : List ℕ) (P 
     unfolding Visits
     told = v
 
-    pub going_operand : (kind : FaultKind) → number kind ≡ r → r ≡ 12 → Tells (Err (record { kind = kind; offset = at })) (onward M m all all (nothing (length code)))
+    pub going_operand : (kind : FaultKind) → r ≡ Err kind → kind ≡ Operand
+        → Tells (Err (record { kind = kind; offset = at })) (onward M m all all (nothing (length code)))
     unfolding Tells site
     going_operand kind u q =
         rw (
           s.same,
           after.is,
           pass_operand M m all (site at (record { ins = ins_of i; next = i.next })) after.more s.shapes
-              (went_twelve Q (length code) r l (λ a. visit M m s.shapes (record { offset = at; what = a; next = i.next })) (act_of M m all (ins_of i))
-              told.0 q),
+              (went_operand Q (length code) r l (λ a. visit M m s.shapes (record { offset = at; what = a; next = i.next })) (act_of M m all (ins_of i))
+              told.0 (u ∙ ap Err q)),
         )
-        (record { kind = kind; offset = at }, refl, ap (λ (n : ℕ). refusal n at) (u ∙ q))
+        (record { kind = kind; offset = at }, refl, ap (λ (e : FaultKind). refusal (number e) at) q)
 
-    pub going_next : r ≡ 0 → Going M m all code Q l i.next
+    pub going_next : r ≡ Ok tt → Going M m all code Q l i.next
     unfolding site
     going_next q =
-        let w = went_zero Q (length code) r l (λ a. visit M m s.shapes (record { offset = at; what = a; next = i.next })) (act_of M m all (ins_of i))
+        let w = went_ok Q (length code) r l (λ a. visit M m s.shapes (record { offset = at; what = a; next = i.next })) (act_of M m all (ins_of i))
         told.0 q in
         record {
           shapes = w.shapes;
@@ -371,22 +362,23 @@ module _ (M : Module) (m : Method) (all : List (Site Ins)) (code : List ℕ) (P 
         }
 
     -- a fault of a shape, unless an operand fault follows
-    pub going_fault : (kind : FaultKind) (f : FaultAt) → number kind ≡ r → (r ≡ 12 → ⊥)
+    pub going_fault : (kind : FaultKind) (f : FaultAt) → r ≡ Err kind → (kind ≡ Operand → ⊥)
         → Late f (record { kind = kind; offset = at }) (find_operands M m all after.more) → Tells (Err f) (onward M m all all (nothing (length code)))
     unfolding Tells Late site ◌>>=◌
     going_fault kind f u y w =
-        let g = went_fault Q (length code) r l (λ a. visit M m s.shapes (record { offset = at; what = a; next = i.next })) (act_of M m all (ins_of i))
-        told.0 (λ z. some_number kind (u ∙ z)) y in
+        let g = went_fault Q (length code) r kind l (λ a. visit M m s.shapes (record { offset = at; what = a; next = i.next }))
+        (act_of M m all (ins_of i)) told.0 u y in
         rw (
           s.same,
           after.is,
-          pass_fault M m all (site at (record { ins = ins_of i; next = i.next })) after.more s.shapes g.what r g.is
+          pass_fault M m all (site at (record { ins = ins_of i; next = i.next })) after.more s.shapes g.what (number kind) g.is
               g.answer,
         ) (by (find_operands M m all after.more) w)
       where
-        by : (A : Answer Refusal (List (Site Act))) → Late f (record { kind = kind; offset = at }) A → Tells (Err f) (A >>= λ _. bad (refusal r at))
+        by : (A : Answer Refusal (List (Site Act))) → Late f (record { kind = kind; offset = at }) A
+            → Tells (Err f) (A >>= λ _. bad (refusal (number kind) at))
         by (bad g) v = (f, refl, v.0)
-        by (ok j) v = (f, refl, rw v (ap (λ (n : ℕ). refusal n at) u))
+        by (ok j) v = (f, refl, rw v refl)
 
 -- ---- A method
 

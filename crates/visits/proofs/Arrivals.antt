@@ -1,8 +1,9 @@
 -- Shapes found, by offset.
 use Prim.Native.Nat.{ℕ, ◌%◌, ◌≤◌, ◌<◌}
 use mathlib.Core.Path.{◌≡◌, refl, sym, ap, ◌∙◌, subst}
-use mathlib.Core.Bool.{Bool, true, false}
-use Rattle.std.specs.Prelude.{Option as Found, None, Some}
+use mathlib.Core.Bool.{Bool, true, false, not}
+use Rattle.std.specs.Prelude.{Option as Found, None, Some, Result, Ok, Err, ⊤}
+use Rattle.std.specs.Bool.{then_some}
 use mathlib.Core.Option.{Option, none, some}
 use mathlib.Core.List.{List, [], ◌∷◌}
 use native.Mathlib.Omega.{arith}
@@ -12,12 +13,14 @@ use lib.ListN.{length, get_or, set, length-set}
 use lib.Seq.{get_or-set_same, get_or-set_other}
 use Rattle.model.specs.Answer.{Answer, bad, ok, ◌>>=◌, guard, need, pick, keep_if, only_if, or_else}
 use Rattle.model.specs.Code.{Jump, iftrue, when, eq, lt}
-use Rattle.shapes.specs.declared.shape.After.{After}
+use Rattle.visits.specs.declared.fault.FaultKind.{FaultKind}
+use Rattle.visits.specs.declared.fault.FaultKind.TheVariants.{Operand, OtherShape, FallsPast}
+use Rattle.visits.specs.Effects.{Agrees}
 use Rattle.check_operands.specs.Groups.{jump_by}
 use Rattle.model.specs.Tables.{eq_tys}
 use Rattle.model.specs.Check.{Shape, Shapes, joined, meet, arrive, shape_at, jump_falls, jump_effect}
-use Rattle.shapes.specs.Pool.{Pool, Shows, Fine, Grown, Agrees}
-use Rattle.visits.specs.Found.{Stands, Kept, Met, Went, WentOn, WentBy, goes_on, jumped, Lands}
+use Rattle.shapes.specs.Pool.{Pool, Shows, Fine, Grown}
+use Rattle.visits.specs.Found.{Stands, Kept, Read, Met, Went, WentBy, goes_on, jumped, Lands}
 use Rattle.shapes.proofs.Showing.{used, not_none, later, empty_shows}
 
 -- by offset: the one that is set, or another
@@ -79,9 +82,9 @@ stands_none P v (some S) f s e =
 pub record Stood (P : Pool) (v : ℕ) (o : Option Shape) : Type 0 where
   pub shape : Shape
   pub is : o ≡ some shape
-  pub shows : Shows P shape (v % 2048)
+  pub shows : Shows P shape v
 
-stands_some : (P : Pool) (v : ℕ) (o : Option Shape) → Fine P → Stands P v o → (v % 2048 ≡ 0 → ⊥) → Stood P v o
+stands_some : (P : Pool) (v : ℕ) (o : Option Shape) → Fine P → Stands P v o → (v % 2048 ≡ 0 → ⊥) → Stood P (v % 2048) o
 unfolding Stands
 stands_some P v none f s e = absurd (e (rw s))
 stands_some P v (some S) f s e =
@@ -90,53 +93,58 @@ stands_some P v (some S) f s e =
     let d : v ≡ v % 2048 = omega arith in
     record { shape = S; is = refl; shows = subst (λ (k : ℕ). Shows P S k) d s }
 
+pub read_none : (P : Pool) (o : Option Shape) → Read P None o → o ≡ none
+unfolding Read
+read_none P none r = refl
+read_none P (some S) r = let z : ◌≡◌ {A = Found ℕ} None (Some r.0) = r.1 in absurd (cc)
+
+pub read_some : (P : Pool) (v : ℕ) (o : Option Shape) → Read P (Some v) o → Stood P v o
+unfolding Read
+read_some P v none r = let z : ◌≡◌ {A = Found ℕ} (Some v) None = r in absurd (cc)
+read_some P v (some S) r =
+    let z : ◌≡◌ {A = Found ℕ} (Some v) (Some r.0) = r.1 in
+    let y : v ≡ r.0 = cc in
+    record { shape = S; is = refl; shows = rw y r.2 }
+
 module _ (P : Pool) (n : ℕ) (F : Shapes) (l : List ℕ) (o : ℕ) (f : Fine P) (k : Kept P n F l) (h : o < n) (b : n ≤ 1024) where
-  pub first_arrival : (S : Shape) (v : ℕ) → get_or l o 0 % 2048 ≡ 0 → Shows P S v → Met P n true (set l o v) (meet F o S (get_or F o none))
-  unfolding Met meet
-  first_arrival S v e w =
-      rw (stands_none P (get_or l o 0) (get_or F o none) f (k.at o h) e) (refl, stands_set P n F l o v S k h b w)
-
-  pub stood : (get_or l o 0 % 2048 ≡ 0 → ⊥) → Stood P (get_or l o 0) (get_or F o none)
-  stood e = stands_some P (get_or l o 0) (get_or F o none) f (k.at o h) e
-
-  pub later_arrival : (S : Shape) (r : Bool) (e : get_or l o 0 % 2048 ≡ 0 → ⊥) → r ≡ eq_tys S (stood e).shape → Met P n r l (meet F o S (get_or F o none))
-  unfolding Met ◌>>=◌ need only_if meet joined
-  later_arrival S r e q = by (get_or F o none) (stood e).shape r (stood e).is refl q
+  pub read_at : (v : ℕ) → v ≡ get_or l o 0 % 2048 → Read P (then_some (not (eqb v 0)) v) (get_or F o none)
+  unfolding Read
+  read_at v e = by (eqb v 0) refl
     where
-      by : (x : Option Shape) (R : Shape) (t : Bool) → x ≡ some R → get_or F o none ≡ x → t ≡ eq_tys S R → Met P n t l (meet F o S x)
-      by none R t a c d = let z : ◌≡◌ {A = ℕ} 0 1 = cc in absurd (omega arith)
-      by (some T) R t a c d = test (eq_tys S T) t (d ∙ let z : R ≡ T = cc in ap (λ (Y : Shape). eq_tys S Y) z)
-        where
-          test : (u t : Bool) → t ≡ u → Met P n t l (need (only_if u (some T)) 16 >>= λ J. ok (set F o (some J)))
-          test true t e = (e, stands_again P n F l o T k h c)
-          test false t e = (e, refl)
+      by : (t : Bool) → eqb v 0 ≡ t → Read P (then_some (not t) v) (get_or F o none)
+      by true q = rw (stands_none P (get_or l o 0) (get_or F o none) f (k.at o h) (sym e ∙ eqb-true v 0 q)) refl
+      by false q =
+          let s = stands_some P (get_or l o 0) (get_or F o none) f (k.at o h) (λ z. eqb-false v 0 q (e ∙ z)) in
+          subst (λ (x : Option Shape). Read P (Some v) x) (sym s.is) (v, refl, subst (λ (k : ℕ). Shows P s.shape k) (sym e) s.shows)
 
-  pub shape_none : get_or l o 0 % 2048 ≡ 0 → Shows P (shape_at F o) 1 × Kept P n (set F o (some (shape_at F o))) (set l o 1)
-  unfolding shape_at or_else
-  shape_none e =
-      rw (stands_none P (get_or l o 0) (get_or F o none) f (k.at o h) e) (empty_shows P f, stands_set P n F l o 1 [] k h b (empty_shows P f))
+  pub first_arrival : (S : Shape) (v : ℕ) → Read P None (get_or F o none) → Shows P S v → Met P n (Ok tt) (set l o v) (meet F o S (get_or F o none))
+  unfolding Met meet
+  first_arrival S v r w = rw (read_none P (get_or F o none) r) (refl, stands_set P n F l o v S k h b w)
 
-  pub shape_some : (get_or l o 0 % 2048 ≡ 0 → ⊥) → Shows P (shape_at F o) (get_or l o 0 % 2048) × Kept P n (set F o (some (shape_at F o))) l
+  module _ (S : Shape) (v : ℕ) (s : Stood P v (get_or F o none)) where
+    pub later_same : true ≡ eq_tys S s.shape → Met P n (Ok tt) l (meet F o S (get_or F o none))
+    unfolding Met ◌>>=◌ need only_if meet joined
+    later_same q = rw (s.is, ← q) (refl, stands_again P n F l o s.shape k h s.is)
+
+    pub later_other : false ≡ eq_tys S s.shape → Met P n (Err OtherShape) l (meet F o S (get_or F o none))
+    unfolding Met ◌>>=◌ need only_if meet joined
+    later_other q = rw (s.is, ← q) (refl, refl)
+
+  pub shape_none : Read P None (get_or F o none) → Shows P (shape_at F o) 1 × Kept P n (set F o (some (shape_at F o))) (set l o 1)
   unfolding shape_at or_else
-  shape_some e =
-      let s = stood e in
+  shape_none r = rw (read_none P (get_or F o none) r) (empty_shows P f, stands_set P n F l o 1 [] k h b (empty_shows P f))
+
+  pub shape_some : (v : ℕ) → Read P (Some v) (get_or F o none) → Shows P (shape_at F o) v × Kept P n (set F o (some (shape_at F o))) l
+  unfolding shape_at or_else
+  shape_some v r =
+      let s = read_some P v (get_or F o none) r in
       rw s.is (s.shows, stands_again P n F l o s.shape k h s.is)
 
 -- ---- What follows an effect
 
-pub went_on : (P : Pool) (n r after : ℕ) (t : Bool) (l : List ℕ) (A : Answer ℕ Shapes) → Met P n t l A → t ≡ true → r ≡ after → WentOn P n r l after A
-unfolding Met WentOn
-went_on P n r after t l (bad k) m e q = let z : ◌≡◌ {A = ℕ} 0 1 = cc in absurd (omega arith)
-went_on P n r after t l (ok F) m e q = (q, m.1)
-
-pub went_off : (P : Pool) (n r after : ℕ) (t : Bool) (l : List ℕ) (A : Answer ℕ Shapes) → Met P n t l A → t ≡ false → r ≡ 16 → WentOn P n r l after A
-unfolding Met WentOn
-went_off P n r after t l (bad k) m e q = (q, m.1)
-went_off P n r after t l (ok F) m e q = let z : ◌≡◌ {A = ℕ} 0 1 = cc in absurd (omega arith)
-
-pub past_end : (P : Pool) (n : ℕ) (F : Shapes) (l : List ℕ) (next : ℕ) (S : Shape) → n ≤ next → Went P n 17 l (goes_on n F true next [] S)
+pub past_end : (P : Pool) (n : ℕ) (F : Shapes) (l : List ℕ) (next : ℕ) (S : Shape) → n ≤ next → Went P n (Err FallsPast) l (goes_on n F true next [] S)
 unfolding Went goes_on arrive keep_if guard ◌>>=◌
-past_end P n F l next S h = rw (le-ltb next n h) (refl, omega arith, omega arith)
+past_end P n F l next S h = rw (le-ltb next n h) (FallsPast, refl, refl, omega arith)
 
 once : (F : Shapes) (S : Shape) (o : ℕ) → arrive F S (o ∷ []) ≡ meet F o S (get_or F o none)
 unfolding arrive ◌>>=◌
@@ -146,37 +154,42 @@ once F S o = by (meet F o S (get_or F o none))
     by (bad k) = refl
     by (ok G) = refl
 
--- an answer of an arrival, then the end is not there
-ended : (P : Pool) (n : ℕ) (l : List ℕ) (r : ℕ) (t : Bool) (A : Answer ℕ Shapes) → Met P n t l A → t ≡ true → r ≡ 0
-    → Went P n r l (A >>= λ more. guard true 17 >>= λ _. ok more)
-unfolding Met Went guard ◌>>=◌
-ended P n l r t (bad k) m e q = let z : ◌≡◌ {A = ℕ} 0 1 = cc in absurd (omega arith)
-ended P n l r t (ok F) m e q = (q, m.1)
+module _ (P : Pool) (n : ℕ) (l : List ℕ) where
+  -- an arrival, then the end is not there
+  met_went : (r : Result ⊤ FaultKind) (A : Answer ℕ Shapes) → Met P n r l A → Went P n r l (A >>= λ more. guard true 17 >>= λ _. ok more)
+  unfolding Met Went guard ◌>>=◌
+  met_went r (bad k) m = let z : k ≡ 16 = m.1 in (OtherShape, m.0, sym z, omega arith)
+  met_went r (ok F) m = m
 
-stopped : (P : Pool) (n : ℕ) (l : List ℕ) (r : ℕ) (t b : Bool) (A : Answer ℕ Shapes) → Met P n t l A → t ≡ false → r ≡ 16
-    → Went P n r l (A >>= λ more. guard b 17 >>= λ _. ok more)
-unfolding Met Went guard ◌>>=◌
-stopped P n l r t b (bad k) m e q = let z : k ≡ 16 = m.1 in (q ∙ sym z, omega arith, omega arith)
-stopped P n l r t b (ok F) m e q = let z : ◌≡◌ {A = ℕ} 0 1 = cc in absurd (omega arith)
+  -- an arrival, then the end
+  met_ended : (A : Answer ℕ Shapes) → Met P n (Ok tt) l A → Went P n (Err FallsPast) l (A >>= λ more. guard false 17 >>= λ _. ok more)
+  unfolding Met Went guard ◌>>=◌
+  met_ended (bad k) m = let z : ◌≡◌ {A = Result ⊤ FaultKind} (Ok tt) (Err OtherShape) = m.0 in absurd (cc)
+  met_ended (ok F) m = (FallsPast, refl, refl, omega arith)
 
-pub next_met : (P : Pool) (n : ℕ) (F : Shapes) (l : List ℕ) (next : ℕ) (S : Shape) (t : Bool) → next < n → Met P n t l (meet F next S (get_or F next none))
-    → t ≡ true → Went P n 0 l (goes_on n F true next [] S)
+  -- another shape was found
+  met_failed : (e : FaultKind) (A : Answer ℕ Shapes) (f : Shapes → Answer ℕ Shapes) → Met P n (Err e) l A → Went P n (Err e) l (A >>= f)
+  unfolding Met Went ◌>>=◌
+  met_failed e (bad k) f m = let z : k ≡ 16 = m.1 in (OtherShape, m.0, sym z, omega arith)
+  met_failed e (ok F) f m = let z : ◌≡◌ {A = Result ⊤ FaultKind} (Err e) (Ok tt) = m.0 in absurd (cc)
+
+pub next_met : (P : Pool) (n : ℕ) (F : Shapes) (l : List ℕ) (next : ℕ) (S : Shape) (r : Result ⊤ FaultKind) → next < n
+    → Met P n r l (meet F next S (get_or F next none)) → Went P n r l (goes_on n F true next [] S)
 unfolding goes_on keep_if
-next_met P n F l next S t h m e = rw (lt-ltb next n h, once F S next) (ended P n l 0 t (meet F next S (get_or F next none)) m e refl)
-
-pub next_other : (P : Pool) (n : ℕ) (F : Shapes) (l : List ℕ) (next : ℕ) (S : Shape) (t : Bool) → next < n → Met P n t l (meet F next S (get_or F next none))
-    → t ≡ false → Went P n 16 l (goes_on n F true next [] S)
-unfolding goes_on keep_if
-next_other P n F l next S t h m e = rw (lt-ltb next n h, once F S next) (stopped P n l 16 t true (meet F next S (get_or F next none)) m e refl)
+next_met P n F l next S r h m = rw (lt-ltb next n h, once F S next) (met_went P n l r (meet F next S (get_or F next none)) m)
 
 -- ---- Branches
 
-pub by_none : {A : Type 0} (P : Pool) (n r : ℕ) (l : List ℕ) (f : A → Answer ℕ Shapes) (o : Option A) → o ≡ none → r ≡ 12 → WentBy P n r l f o
-unfolding WentBy
-by_none P n r l f o e q = rw e q
+twice : (F G : Shapes) (R : Shape) (x o : ℕ) → meet F x R (get_or F x none) ≡ ok G → arrive F R (x ∷ o ∷ []) ≡ meet G o R (get_or G o none)
+unfolding arrive ◌>>=◌
+twice F G R x o e = rw e (once G R o)
 
-pub by_some : {A : Type 0} (P : Pool) (n r : ℕ) (l : List ℕ) (f : A → Answer ℕ Shapes) (o : Option A) (a : A) → o ≡ some a → Went P n r l (f a)
-    → WentBy P n r l f o
+pub by_none : {A : Type 0} (P : Pool) (n : ℕ) (l : List ℕ) (f : A → Answer ℕ Shapes) (o : Option A) → o ≡ none → WentBy P n (Err Operand) l f o
+unfolding WentBy
+by_none P n l f o e = rw e refl
+
+pub by_some : {A : Type 0} (P : Pool) (n : ℕ) (r : Result ⊤ FaultKind) (l : List ℕ) (f : A → Answer ℕ Shapes) (o : Option A) (a : A) → o ≡ some a
+    → Went P n r l (f a) → WentBy P n r l f o
 unfolding WentBy
 by_some P n r l f o a e h = rw e h
 
@@ -190,88 +203,75 @@ unfolding Lands
 landed n r none t h k = let x : r ≡ None = h in cc
 landed n r (some o) t h k = let x : r ≡ Some o = h.0 in let y : o ≡ t = cc in (ap some y, rw (← y) h.1)
 
-pub record Passed (P : Pool) (r : After) (A : Answer ℕ Shape) : Type 0 where
+pub record Passed (P : Pool) (s : ℕ) (A : Answer ℕ Shape) : Type 0 where
   pub shape : Shape
   pub is : A ≡ ok shape
-  pub shows : Shows P shape r.shape
+  pub shows : Shows P shape s
 
-pub passed : (P : Pool) (r : After) (A : Answer ℕ Shape) → Agrees P r A → r.fault ≡ 0 → Passed P r A
+pub passed : (P : Pool) (s : ℕ) (A : Answer ℕ Shape) → Agrees P (Ok s) A → Passed P s A
 unfolding Agrees
-passed P r (bad k) h e = let x : r.fault ≡ k = h.0 in let y : 12 < k = h.1 in absurd (omega arith)
-passed P r (ok S) h e = record { shape = S; is = refl; shows = h.1 }
+passed P s (bad k) h = absurd h
+passed P s (ok S) h = record { shape = S; is = refl; shows = h }
 
-pub failed : (P : Pool) (r : After) (A : Answer ℕ Shape) (n : ℕ) (l : List ℕ) (f : Shape → Answer ℕ Shapes) → Agrees P r A → (r.fault ≡ 0 → ⊥)
-    → Went P n r.fault l (A >>= f)
+pub agrees_shape : (P : Pool) (s : ℕ) (A : Answer ℕ Shape) (S : Shape) → A ≡ ok S → Shows P S s → Agrees P (Ok s) A
+unfolding Agrees
+agrees_shape P s A S e w = rw e w
+
+pub failed : (P : Pool) (e : FaultKind) (A : Answer ℕ Shape) (n : ℕ) (l : List ℕ) (f : Shape → Answer ℕ Shapes) → Agrees P (Err e) A
+    → Went P n (Err e) l (A >>= f)
 unfolding Agrees Went ◌>>=◌
-failed P r (bad k) n l f h e = h
-failed P r (ok S) n l f h e = absurd (e h.0)
-
-pub branch_failed : (P : Pool) (r : After) (n : ℕ) (F : Shapes) (j : Jump) (next : ℕ) (S : Shape) (o : ℕ) (l : List ℕ) → Agrees P r (jump_effect j S)
-    → (r.fault ≡ 0 → ⊥) → Went P n r.fault l (jumped n F j next S o)
-unfolding jumped
-branch_failed P r n F j next S o l h e = failed P r (jump_effect j S) n l (λ R. goes_on n F (jump_falls j) next (o ∷ []) R) h e
+failed P e (bad k) n l f h = (e, refl, h.0, h.1)
+failed P e (ok S) n l f h = absurd h
 
 jumped_is : (n : ℕ) (F : Shapes) (j : Jump) (next : ℕ) (S R : Shape) (o : ℕ) → jump_effect j S ≡ ok R
     → jumped n F j next S o ≡ goes_on n F (jump_falls j) next (o ∷ []) R
 unfolding jumped ◌>>=◌
 jumped_is n F j next S R o e = rw e refl
 
--- what an end answers
-unfoldable guarding : Bool → ℕ → Type 0
-guarding true after = after ≡ 0
-guarding false after = after ≡ 17
+module _ (P : Pool) (n : ℕ) (F : Shapes) (j : Jump) (next : ℕ) (S : Shape) (o : ℕ) (l : List ℕ) where
+  pub branch_failed : (e : FaultKind) → Agrees P (Err e) (jump_effect j S) → Went P n (Err e) l (jumped n F j next S o)
+  unfolding jumped
+  branch_failed e h = failed P e (jump_effect j S) n l (λ R. goes_on n F (jump_falls j) next (o ∷ []) R) h
 
--- what is left where an arrival was the last
-last_went : (P : Pool) (n r after : ℕ) (l : List ℕ) (b : Bool) (A : Answer ℕ Shapes) → WentOn P n r l after A → guarding b after
-    → Went P n r l (A >>= λ more. guard b 17 >>= λ _. ok more)
-unfolding WentOn Went guard ◌>>=◌ guarding
-last_went P n r after l b (bad k) h g = let z : k ≡ 16 = h.1 in (h.0 ∙ sym z, omega arith, omega arith)
-last_went P n r after l true (ok F) h g = (h.0 ∙ g, h.1)
-last_went P n r after l false (ok F) h g = (h.0 ∙ g, omega arith, omega arith)
+  module _ (R : Shape) (e : jump_effect j S ≡ ok R) where
+    pub branch_only : (r : Result ⊤ FaultKind) → jump_falls j ≡ false → Met P n r l (meet F o R (get_or F o none)) → Went P n r l (jumped n F j next S o)
+    unfolding goes_on keep_if
+    branch_only r q m = rw (jumped_is n F j next S R o e, q, once F R o) (met_went P n l r (meet F o R (get_or F o none)) m)
 
-pub branch_only : (P : Pool) (n r : ℕ) (F : Shapes) (j : Jump) (next : ℕ) (S R : Shape) (o : ℕ) (l : List ℕ) → jump_effect j S ≡ ok R → jump_falls j ≡ false
-    → WentOn P n r l 0 (meet F o R (get_or F o none)) → Went P n r l (jumped n F j next S o)
-unfolding goes_on keep_if guarding
-branch_only P n r F j next S R o l e q h = rw (jumped_is n F j next S R o e, q, once F R o) (last_went P n r 0 l true (meet F o R (get_or F o none)) h refl)
+    module _ (q : jump_falls j ≡ true) where
+      pub branch_last : n ≤ next → Met P n (Ok tt) l (meet F o R (get_or F o none)) → Went P n (Err FallsPast) l (jumped n F j next S o)
+      unfolding goes_on keep_if
+      branch_last b m = rw (jumped_is n F j next S R o e, q, le-ltb next n b, once F R o) (met_ended P n l (meet F o R (get_or F o none)) m)
 
-pub branch_last : (P : Pool) (n r : ℕ) (F : Shapes) (j : Jump) (next : ℕ) (S R : Shape) (o : ℕ) (l : List ℕ) → jump_effect j S ≡ ok R → jump_falls j ≡ true
-    → n ≤ next
-    → WentOn P n r l 17 (meet F o R (get_or F o none)) → Went P n r l (jumped n F j next S o)
-unfolding goes_on keep_if guarding
-branch_last P n r F j next S R o l e q b h =
-    rw (jumped_is n F j next S R o e, q, le-ltb next n b, once F R o) (last_went P n r 17 l false (meet F o R (get_or F o none)) h refl)
+      pub branch_last_failed : (k : FaultKind) → n ≤ next → Met P n (Err k) l (meet F o R (get_or F o none)) → Went P n (Err k) l (jumped n F j next S o)
+      unfolding goes_on keep_if
+      branch_last_failed k b m = rw (jumped_is n F j next S R o e, q, le-ltb next n b, once F R o) (met_failed P n l k (meet F o R (get_or F o none)) (λ more. guard false 17 >>= λ _. ok more) m)
+
+      pub branch_next_failed : (k : FaultKind) → next < n → Met P n (Err k) l (meet F next R (get_or F next none))
+          → Went P n (Err k) l (jumped n F j next S o)
+      unfolding goes_on keep_if arrive ◌>>=◌
+      branch_next_failed k b m = rw (jumped_is n F j next S R o e, q, lt-ltb next n b) (by (meet F next R (get_or F next none)) m)
+        where
+          by : (A : Answer ℕ Shapes) → Met P n (Err k) l A
+              → Went P n (Err k) l ((A >>= λ more. arrive more R (o ∷ [])) >>= λ more. guard true 17 >>= λ _. ok more)
+          by (bad i) m = met_failed P n l k (bad i) (λ more. ok more) m
+          by (ok G) m = met_failed P n l k (ok G) (λ more. arrive more R (o ∷ []) >>= λ more. guard true 17 >>= λ _. ok more) m
+
+      pub branch_both : (r : Result ⊤ FaultKind) (G : Shapes) → next < n → meet F next R (get_or F next none) ≡ ok G
+          → Met P n r l (meet G o R (get_or G o none)) → Went P n r l (jumped n F j next S o)
+      unfolding goes_on keep_if
+      branch_both r G b m h =
+          rw (jumped_is n F j next S R o e, q, lt-ltb next n b, twice F G R next o m) (met_went P n l r (meet G o R (get_or G o none)) h)
 
 pub record Arrived (P : Pool) (n : ℕ) (l : List ℕ) (A : Answer ℕ Shapes) : Type 0 where
   pub found : Shapes
   pub is : A ≡ ok found
   pub kept : Kept P n found l
 
-pub arrived : (P : Pool) (n : ℕ) (l : List ℕ) (t : Bool) (A : Answer ℕ Shapes) → Met P n t l A → t ≡ true → Arrived P n l A
+pub arrived : (P : Pool) (n : ℕ) (l : List ℕ) (A : Answer ℕ Shapes) → Met P n (Ok tt) l A → Arrived P n l A
 unfolding Met
-arrived P n l t (bad k) h e = let z : ◌≡◌ {A = ℕ} 0 1 = cc in absurd (omega arith)
-arrived P n l t (ok F) h e = record { found = F; is = refl; kept = h.1 }
-
-twice : (F G : Shapes) (R : Shape) (x o : ℕ) → meet F x R (get_or F x none) ≡ ok G → arrive F R (x ∷ o ∷ []) ≡ meet G o R (get_or G o none)
-unfolding arrive ◌>>=◌
-twice F G R x o e = rw e (once G R o)
-
-pub branch_both : (P : Pool) (n r : ℕ) (F G : Shapes) (j : Jump) (next : ℕ) (S R : Shape) (o : ℕ) (l : List ℕ) → jump_effect j S ≡ ok R → jump_falls j ≡ true
-    → next < n
-    → meet F next R (get_or F next none) ≡ ok G → WentOn P n r l 0 (meet G o R (get_or G o none)) → Went P n r l (jumped n F j next S o)
-unfolding goes_on keep_if guarding
-branch_both P n r F G j next S R o l e q b m h =
-    rw (jumped_is n F j next S R o e, q, lt-ltb next n b, twice F G R next o m) (last_went P n r 0 l true (meet G o R (get_or G o none)) h refl)
-
-pub branch_other : (P : Pool) (n : ℕ) (F : Shapes) (j : Jump) (next : ℕ) (S R : Shape) (o : ℕ) (l : List ℕ) (t : Bool) → jump_effect j S ≡ ok R
-    → jump_falls j ≡ true → next < n
-    → Met P n t l (meet F next R (get_or F next none)) → t ≡ false → Went P n 16 l (jumped n F j next S o)
-unfolding goes_on keep_if arrive Met Went guard ◌>>=◌
-branch_other P n F j next S R o l t e q b m z =
-    rw (jumped_is n F j next S R o e, q, lt-ltb next n b) (by (meet F next R (get_or F next none)) m)
-  where
-    by : (A : Answer ℕ Shapes) → Met P n t l A → Went P n 16 l ((A >>= λ more. arrive more R (o ∷ [])) >>= λ more. guard true 17 >>= λ _. ok more)
-    by (bad k) m = let y : k ≡ 16 = m.1 in (sym y, omega arith, omega arith)
-    by (ok G) m = let y : ◌≡◌ {A = ℕ} 0 1 = cc in absurd (omega arith)
+arrived P n l (bad k) h = let z : ◌≡◌ {A = Result ⊤ FaultKind} (Ok tt) (Err OtherShape) = h.0 in absurd (cc)
+arrived P n l (ok F) h = record { found = F; is = refl; kept = h.1 }
 
 pub falls_not : (g : ℕ) → g ≡ 33 → jump_falls (jump_by g) ≡ false
 unfolding jump_by pick jump_falls

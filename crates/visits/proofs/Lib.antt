@@ -3,3 +3,4 @@ pub mod Alike
 pub mod Arrivals
 pub mod Branches
 pub mod Visiting
+pub mod Answering

@@ -2,7 +2,7 @@
 use Prim.Native.Nat.{ℕ, ◌-◌, ◌≤◌, ◌<◌}
 use mathlib.Core.Path.{◌≡◌, refl, sym, ap, ◌∙◌, subst}
 use mathlib.Core.Bool.{Bool, true, false, not}
-use Rattle.std.specs.Prelude.{Option as Found, is_some}
+use Rattle.std.specs.Prelude.{Option as Found, is_some, Result, Ok, Err, ⊤}
 use Rattle.code.specs.Operand.{maybe}
 use Rattle.check_operands.proofs.Operands.{absent}
 use mathlib.Core.Option.{Option, none, some}
@@ -18,14 +18,13 @@ use Rattle.model.specs.Code.{Act, and_then, row_of, class_of, field_of, method_o
 use Rattle.model.specs.Check.{Shape, Shapes, Site, starts, all_start, targets, falls, plain_falls, effect, arrive, arrivals, shape_at, visit}
 use Rattle.code.specs.declared.insn.Insn.{Insn}
 use Rattle.code.specs.Insn.{ins_of}
-use Rattle.shapes.specs.declared.shape.After.{After}
-use Rattle.shapes.specs.Pool.{Pool, Shows, Fine, Agrees, Takes}
+use Rattle.shapes.specs.Pool.{Pool, Shows, Fine}
+use Rattle.visits.specs.declared.fault.FaultKind.TheVariants.{Operand}
+use Rattle.visits.specs.Effects.{Agrees, Takes}
 use Rattle.check_operands.specs.Groups.{group_of, jump_by, target_by, call_by, field_by, plain_by, ins_by}
 use Rattle.visits.specs.Found.{Kept, Went, WentBy, Lands, landing, goes_on, jumped}
 use Rattle.visits.specs.Visits.{act_of, Visits}
-use Rattle.std.specs.Prelude.{Result, ⊤}
 use Rattle.visits.specs.declared.fault.FaultKind.{FaultKind}
-use Rattle.visits.specs.Faults.{number_in}
 use Rattle.visits.proofs.Arrivals.{failed}
 use Rattle.visits.proofs.Alike.{ins_for, act_for, operands_for, effect_for, falls_for, targets_for, group_law}
 
@@ -64,14 +63,14 @@ act_for_lem M m all i = rw (operands_for M m i) (by (operands M m i))
     by none = refl
     by (some a) = rw (targets_for a) (test (all_start all (targets a)) a)
 
-went_for : (P : Pool) (n r : ℕ) (l : List ℕ) (f : Act → Answer ℕ Shapes) (o : Option Act) → ((a : Act) → f (act_for a) ≡ f a)
+went_for : (P : Pool) (n : ℕ) (r : Result ⊤ FaultKind) (l : List ℕ) (f : Act → Answer ℕ Shapes) (o : Option Act) → ((a : Act) → f (act_for a) ≡ f a)
     → WentBy P n r l f (map_option act_for o) → WentBy P n r l f o
 unfolding WentBy map_option
 went_for P n r l f none e h = h
 went_for P n r l f (some a) e h = subst (λ (A : Answer ℕ Shapes). Went P n r l A) (e a) h
 
 -- the instruction read stands for its group
-pub by_group : (M : Module) (m : Method) (all : List (Site Ins)) (F : Shapes) (o : ℕ) (i : Insn) (n r : ℕ) (l : List ℕ) (Q : Pool) (g : ℕ)
+pub by_group : (M : Module) (m : Method) (all : List (Site Ins)) (F : Shapes) (o : ℕ) (i : Insn) (n : ℕ) (r : Result ⊤ FaultKind) (l : List ℕ) (Q : Pool) (g : ℕ)
     → g ≡ group_of i.op
     → WentBy Q n r l (λ a. visit M m F (here o a i.next)) (act_of M m all (ins_by g i.op i.operand i.next)) → Fine Q → Visits M m all F o i n r l Q
 unfolding Visits
@@ -116,7 +115,7 @@ jump_acts M m all j t n e = rw (← e) (by t)
     by none = refl
     by (some o) = test (ltb o (length m.code)) (starts all o) o refl
 
-went_map : (P : Pool) (n r : ℕ) (l : List ℕ) (f : ℕ → Answer ℕ Shapes) (h : ℕ → Act) (g : Act → Answer ℕ Shapes) (o : Option ℕ) → ((a : ℕ) → g (h a) ≡ f a)
+went_map : (P : Pool) (n : ℕ) (r : Result ⊤ FaultKind) (l : List ℕ) (f : ℕ → Answer ℕ Shapes) (h : ℕ → Act) (g : Act → Answer ℕ Shapes) (o : Option ℕ) → ((a : ℕ) → g (h a) ≡ f a)
     → WentBy P n r l f o → WentBy P n r l g (map_option h o)
 unfolding WentBy map_option
 went_map P n r l f h g none e w = w
@@ -127,7 +126,7 @@ visit_jump : (M : Module) (m : Method) (F : Shapes) (o next n : ℕ) (j : Jump) 
 unfolding jumped effect falls targets
 visit_jump M m F o next n j t e = visit_is M m F o (Act.jump j t) next n e
 
-pub branch_visit : (M : Module) (m : Method) (all : List (Site Ins)) (F : Shapes) (o : ℕ) (i : Insn) (n r : ℕ) (l : List ℕ) (Q : Pool) (g : ℕ)
+pub branch_visit : (M : Module) (m : Method) (all : List (Site Ins)) (F : Shapes) (o : ℕ) (i : Insn) (n : ℕ) (r : Result ⊤ FaultKind) (l : List ℕ) (Q : Pool) (g : ℕ)
     → g ≡ group_of i.op → 33 ≤ g → length m.code ≡ n
     → WentBy Q n r l (jumped n (marked F o) (jump_by g) i.next (shape_at F o)) (landing all n (target_by i.op i.next i.operand)) → Fine Q
     → Visits M m all F o i n r l Q
@@ -310,10 +309,10 @@ still : (g op n x y : ℕ) → g < 33 → ins_by g op n x ≡ ins_by g op n y
 unfolding ins_by pick
 still g op n x y h = rw (lt-ltb g 33 h) refl
 
-module _ (M : Module) (m : Method) (all : List (Site Ins)) (F : Shapes) (o : ℕ) (i : Insn) (n : ℕ) (l : List ℕ) (Q : Pool) (g : ℕ) (r : After)
+module _ (M : Module) (m : Method) (all : List (Site Ins)) (F : Shapes) (o : ℕ) (i : Insn) (n : ℕ) (l : List ℕ) (Q : Pool) (g : ℕ) (r : Result ℕ FaultKind)
     (e : g ≡ group_of i.op) (h : g < 33) (z : length m.code ≡ n) (f : Fine Q)
     (t : Takes Q r (λ a. effect M m a (shape_at F o)) (operands M m (ins_by g i.op i.operand 0))) where
-  by_operands : (v : ℕ) (b : Bool) → Calm b (ins_by g i.op i.operand 0)
+  by_operands : (v : Result ⊤ FaultKind) (b : Bool) → Calm b (ins_by g i.op i.operand 0)
       → WentBy Q n v l (λ a. visit M m F (here o a i.next)) (operands M m (ins_by g i.op i.operand 0)) → Visits M m all F o i n v l Q
   by_operands v b c w =
       by_group M m all F o i n v l Q g e
@@ -321,55 +320,58 @@ module _ (M : Module) (m : Method) (all : List (Site Ins)) (F : Shapes) (o : ℕ
       (sym (ap (act_of M m all) (still g i.op i.operand i.next 0 h) ∙ quiet_acts M m all b (ins_by g i.op i.operand 0)
       (calm_quiet M m b (ins_by g i.op i.operand 0) c))) w) f
 
-  pub step_failed : (r.fault ≡ 0 → ⊥) → Visits M m all F o i n r.fault l Q
+  pub step_failed : (k : FaultKind) → r ≡ Err k → Visits M m all F o i n (Err k) l Q
   unfolding Takes WentBy
-  step_failed k = by_test (eqb g 3) refl
+  step_failed k c = by_test (eqb g 3) refl
     where
-      went : (x : Option Act) → Takes Q r (λ a. effect M m a (shape_at F o)) x → WentBy Q n r.fault l (λ a. visit M m F (here o a i.next)) x
-      went none t = t
+      went : (x : Option Act) → Takes Q (Err k) (λ a. effect M m a (shape_at F o)) x → WentBy Q n (Err k) l (λ a. visit M m F (here o a i.next)) x
+      went none t = let y : ◌≡◌ {A = Result ℕ FaultKind} (Err k) (Err Operand) = t in cc
       went (some a) t =
-          subst (λ (A : Answer ℕ Shapes). Went Q n r.fault l A) (sym (visit_is M m F o a i.next n z))
-          (failed Q r (effect M m a (shape_at F o)) n l (λ S. goes_on n (marked F o) (falls a) i.next (targets a) S) t k)
+          subst (λ (A : Answer ℕ Shapes). Went Q n (Err k) l A) (sym (visit_is M m F o a i.next n z))
+          (failed Q k (effect M m a (shape_at F o)) n l (λ S. goes_on n (marked F o) (falls a) i.next (targets a) S) t)
 
-      by_test : (c : Bool) → eqb g 3 ≡ c → Visits M m all F o i n r.fault l Q
+      by_test : (b : Bool) → eqb g 3 ≡ b → Visits M m all F o i n (Err k) l Q
       by_test true q =
-          by_operands r.fault false (step_ret g i.op i.operand 0 (eqb-true g 3 q)) (went (operands M m (ins_by g i.op i.operand 0)) t)
+          by_operands (Err k) false (step_ret g i.op i.operand 0 (eqb-true g 3 q)) (went (operands M m (ins_by g i.op i.operand 0)) (rw c at t))
       by_test false q =
-          by_operands r.fault true (step_calm g i.op i.operand 0 h (eqb-false g 3 q)) (went (operands M m (ins_by g i.op i.operand 0)) t)
+          by_operands (Err k) true (step_calm g i.op i.operand 0 h (eqb-false g 3 q)) (went (operands M m (ins_by g i.op i.operand 0)) (rw c at t))
 
-  pub step_returned : r.fault ≡ 0 → g ≡ 3 → Kept Q n (marked F o) l → Visits M m all F o i n 0 l Q
-  unfolding Takes WentBy Quietly Agrees Went ◌>>=◌ goes_on arrive keep_if guard
-  step_returned k q w =
-      by_operands 0 false (step_ret g i.op i.operand 0 q)
-      (went (operands M m (ins_by g i.op i.operand 0)) t (calm_quiet M m false (ins_by g i.op i.operand 0) (step_ret g i.op i.operand 0 q)))
-    where
-      ends : (a : Act) (A : Answer ℕ Shape) → Agrees Q r A → targets a ≡ [] → falls a ≡ false
-          → Went Q n 0 l (A >>= λ S. goes_on n (marked F o) (falls a) i.next (targets a) S)
-      ends a (bad j) c x y = let u : r.fault ≡ j = c.0 in let v : 12 < j = c.1 in absurd (omega arith)
-      ends a (ok S) c x y = rw (x, y) (refl, w)
+  module _ (s : ℕ) (k : r ≡ Ok s) where
+    pub step_returned : g ≡ 3 → Kept Q n (marked F o) l → Visits M m all F o i n (Ok tt) l Q
+    unfolding Takes WentBy Quietly Agrees Went ◌>>=◌ goes_on arrive keep_if guard
+    step_returned q w =
+        by_operands (Ok tt) false (step_ret g i.op i.operand 0 q)
+        (went (operands M m (ins_by g i.op i.operand 0)) (rw k at t)
+        (calm_quiet M m false (ins_by g i.op i.operand 0) (step_ret g i.op i.operand 0 q)))
+      where
+        ends : (a : Act) (A : Answer ℕ Shape) → Agrees Q (Ok s) A → targets a ≡ [] → falls a ≡ false
+            → Went Q n (Ok tt) l (A >>= λ S. goes_on n (marked F o) (falls a) i.next (targets a) S)
+        ends a (bad j) c x y = absurd c
+        ends a (ok S) c x y = rw (x, y) (refl, w)
 
-      went : (x : Option Act) → Takes Q r (λ a. effect M m a (shape_at F o)) x → Quietly false x → WentBy Q n 0 l (λ a. visit M m F (here o a i.next)) x
-      went none t c = let u : r.fault ≡ 12 = t in absurd (omega arith)
-      went (some a) t c =
-          subst (λ (A : Answer ℕ Shapes). Went Q n 0 l A) (sym (visit_is M m F o a i.next n z)) (ends a (effect M m a (shape_at F o)) t c.0 c.1)
+        went : (x : Option Act) → Takes Q (Ok s) (λ a. effect M m a (shape_at F o)) x → Quietly false x
+            → WentBy Q n (Ok tt) l (λ a. visit M m F (here o a i.next)) x
+        went none t c = let y : ◌≡◌ {A = Result ℕ FaultKind} (Ok s) (Err Operand) = t in absurd (cc)
+        went (some a) t c =
+            subst (λ (A : Answer ℕ Shapes). Went Q n (Ok tt) l A) (sym (visit_is M m F o a i.next n z)) (ends a (effect M m a (shape_at F o)) t c.0 c.1)
 
-  pub step_onward : (v : ℕ) → r.fault ≡ 0 → (g ≡ 3 → ⊥) → ((S : Shape) → Shows Q S r.shape → Went Q n v l (goes_on n (marked F o) true i.next [] S))
-      → Visits M m all F o i n v l Q
-  unfolding Takes WentBy Quietly Agrees Went ◌>>=◌
-  step_onward v k q w =
-      by_operands v true (step_calm g i.op i.operand 0 h q)
-      (went (operands M m (ins_by g i.op i.operand 0)) t
-      (calm_quiet M m true (ins_by g i.op i.operand 0) (step_calm g i.op i.operand 0 h q)))
-    where
-      ends : (a : Act) (A : Answer ℕ Shape) → Agrees Q r A → targets a ≡ [] → falls a ≡ true
-          → Went Q n v l (A >>= λ S. goes_on n (marked F o) (falls a) i.next (targets a) S)
-      ends a (bad j) c x y = let u : r.fault ≡ j = c.0 in let v : 12 < j = c.1 in absurd (omega arith)
-      ends a (ok S) c x y = rw (x, y) (w S c.1)
+    pub step_onward : (v : Result ⊤ FaultKind) → (g ≡ 3 → ⊥) → ((S : Shape) → Shows Q S s → Went Q n v l (goes_on n (marked F o) true i.next [] S))
+        → Visits M m all F o i n v l Q
+    unfolding Takes WentBy Quietly Agrees Went ◌>>=◌
+    step_onward v q w =
+        by_operands v true (step_calm g i.op i.operand 0 h q)
+        (went (operands M m (ins_by g i.op i.operand 0)) (rw k at t)
+        (calm_quiet M m true (ins_by g i.op i.operand 0) (step_calm g i.op i.operand 0 h q)))
+      where
+        ends : (a : Act) (A : Answer ℕ Shape) → Agrees Q (Ok s) A → targets a ≡ [] → falls a ≡ true
+            → Went Q n v l (A >>= λ S. goes_on n (marked F o) (falls a) i.next (targets a) S)
+        ends a (bad j) c x y = absurd c
+        ends a (ok S) c x y = rw (x, y) (w S c)
 
-      went : (x : Option Act) → Takes Q r (λ a. effect M m a (shape_at F o)) x → Quietly true x → WentBy Q n v l (λ a. visit M m F (here o a i.next)) x
-      went none t c = let u : r.fault ≡ 12 = t in absurd (omega arith)
-      went (some a) t c =
-          subst (λ (A : Answer ℕ Shapes). Went Q n v l A) (sym (visit_is M m F o a i.next n z)) (ends a (effect M m a (shape_at F o)) t c.0 c.1)
+        went : (x : Option Act) → Takes Q (Ok s) (λ a. effect M m a (shape_at F o)) x → Quietly true x → WentBy Q n v l (λ a. visit M m F (here o a i.next)) x
+        went none t c = let y : ◌≡◌ {A = Result ℕ FaultKind} (Ok s) (Err Operand) = t in absurd (cc)
+        went (some a) t c =
+            subst (λ (A : Answer ℕ Shapes). Went Q n v l A) (sym (visit_is M m F o a i.next n z)) (ends a (effect M m a (shape_at F o)) t c.0 c.1)
 
 pub quiet_refused : (M : Module) (m : Method) (all : List (Site Ins)) (i : Insn) (g : ℕ) (b : Bool) → g ≡ group_of i.op → g < 33
     → b ≡ is_none (operands M m (ins_by g i.op i.operand 0)) → b ≡ is_none (act_of M m all (ins_of i))
@@ -383,17 +385,3 @@ quiet_refused M m all i g b e h t =
     acts false q =
         quiet_acts M m all true (ins_by g i.op i.operand 0)
         (calm_quiet M m true (ins_by g i.op i.operand 0) (step_calm g i.op i.operand 0 h (eqb-false g 3 q)))
-
--- a fault by its number
-pub by_number : (M : Module) (m : Method) (all : List (Site Ins)) (F : Shapes) (o : ℕ) (i : Insn) (n v : ℕ) (l : List ℕ) (Q : Pool) (r : Result ⊤ FaultKind)
-    → (v ≡ 0 → number_in r ≡ v) → (11 < v → v < 18 → number_in r ≡ v) → Visits M m all F o i n v l Q → Visits M m all F o i n (number_in r) l Q
-unfolding Visits WentBy Went
-by_number M m all F o i n v l Q r e f w = rw (same (act_of M m all (ins_of i)) w.0) w
-  where
-    same : (x : Option Act) → WentBy Q n v l (λ a. visit M m F (here o a i.next)) x → number_in r ≡ v
-    same none t = f (omega arith) (omega arith)
-    same (some a) t = by (visit M m F (here o a i.next)) t
-      where
-        by : (A : Answer ℕ Shapes) → Went Q n v l A → number_in r ≡ v
-        by (bad k) t = let z : v ≡ k = t.0 in let x : 12 < k = t.1 in let y : k < 18 = t.2 in f (omega arith) (omega arith)
-        by (ok G) t = e t.0

@@ -1,10 +1,13 @@
 -- Shapes found, by offset, and what a visit leaves of them.
-use Rattle.std.specs.Prelude.{ℕ, ◌<◌, ◌≡◌, Bool, true, false, not, ◌&&◌, ◌||◌, List, [], ◌∷◌, length, get_or, ltb, Option as Found, None, Some}
+use Rattle.std.specs.Prelude.{ℕ, ◌<◌, ◌≡◌, Bool, not, ◌&&◌, ◌||◌, List, [], ◌∷◌, length, get_or, ltb, Option as Found, None, Some, Result, Ok, Err, ⊤}
 use Rattle.std.proofs.Math.Option.{Option, none, some}
 use Rattle.model.specs.Answer.{Answer, bad, ok, ◌>>=◌, guard, keep_if, only_if}
 use Rattle.model.specs.Code.{Jump, Ins, and_then}
 use Rattle.model.specs.Check.{Shape, Shapes, Site, starts, jump_falls, jump_effect, arrive}
 use Rattle.shapes.specs.Pool.{Pool, Shows}
+use Rattle.visits.specs.declared.fault.FaultKind.{FaultKind}
+use Rattle.visits.specs.declared.fault.FaultKind.TheVariants.{Operand, OtherShape}
+use Rattle.visits.specs.Faults.{number}
 
 -- 0 where no shape is found
 unfoldable pub Stands : Pool → ℕ → Option Shape → Type 0
@@ -21,19 +24,24 @@ pub record Kept (P : Pool) (n : ℕ) (F : Shapes) (l : List ℕ) : Type 0 where
 abbrev pub Starts : List (Site Ins) → ℕ → List ℕ → Type 0
 Starts all n l = (o : ℕ) → o < n → ltb 0 (get_or l o 0) ≡ starts all o
 
--- whether an arrival brings the shape found
-unfoldable pub Met : Pool → ℕ → Bool → List ℕ → Answer ℕ Shapes → Type 0
-Met P n r l (bad k) = (r ≡ false) × (k ≡ 16)
-Met P n r l (ok F) = (r ≡ true) × Kept P n F l
+-- the shape that the code reads at an offset
+unfoldable pub Read : Pool → Found ℕ → Option Shape → Type 0
+Read P r none = r ≡ None
+Read P r (some S) = (s : ℕ) × (r ≡ Some s) × Shows P S s
 
--- a fault from 13 to 17, or 0 and the shapes found
-unfoldable pub Went : Pool → ℕ → ℕ → List ℕ → Answer ℕ Shapes → Type 0
-Went P n r l (bad k) = (r ≡ k) × (12 < k) × (k < 18)
-Went P n r l (ok F) = (r ≡ 0) × Kept P n F l
+-- an arrival brings the shape found, or another
+unfoldable pub Met : Pool → ℕ → Result ⊤ FaultKind → List ℕ → Answer ℕ Shapes → Type 0
+Met P n r l (bad k) = (r ≡ Err OtherShape) × (k ≡ 16)
+Met P n r l (ok F) = (r ≡ Ok tt) × Kept P n F l
 
--- 12 where there is no operand
-unfoldable pub WentBy : {A : Type 0} → Pool → ℕ → ℕ → List ℕ → (A → Answer ℕ Shapes) → Option A → Type 0
-WentBy P n r l f none = r ≡ 12
+-- a fault from 13 to 17, or the shapes found
+unfoldable pub Went : Pool → ℕ → Result ⊤ FaultKind → List ℕ → Answer ℕ Shapes → Type 0
+Went P n r l (bad k) = (e : FaultKind) × (r ≡ Err e) × (number e ≡ k) × (12 < k)
+Went P n r l (ok F) = (r ≡ Ok tt) × Kept P n F l
+
+-- a fault of the operand where there is none
+unfoldable pub WentBy : {A : Type 0} → Pool → ℕ → Result ⊤ FaultKind → List ℕ → (A → Answer ℕ Shapes) → Option A → Type 0
+WentBy P n r l f none = r ≡ Err Operand
 WentBy P n r l f (some a) = Went P n r l (f a)
 
 -- the target of a branch, if an instruction starts there
@@ -54,8 +62,3 @@ goes_on n F falls next ts S =
 
 unfoldable pub jumped : ℕ → Shapes → Jump → ℕ → Shape → ℕ → Answer ℕ Shapes
 jumped n F j next S o = jump_effect j S >>= λ R. goes_on n F (jump_falls j) next (o ∷ []) R
-
--- 16 where the shape is another, else what follows
-unfoldable pub WentOn : Pool → ℕ → ℕ → List ℕ → ℕ → Answer ℕ Shapes → Type 0
-WentOn P n r l after (bad k) = (r ≡ 16) × (k ≡ 16)
-WentOn P n r l after (ok F) = (r ≡ after) × Kept P n F l

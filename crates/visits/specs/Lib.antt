@@ -1,4 +1,5 @@
 pub mod Faults
+pub mod Effects
 pub mod Found
 pub mod Visits
 pub mod Notes

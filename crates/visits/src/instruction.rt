@@ -9,10 +9,10 @@ ghost use Rattle.shapes.specs.Pool.{pool, Fine};
 ghost use Rattle.check_operands.specs.Groups.{groups as group_table};
 ghost use Rattle.check_operands.specs.Held.{Held};
 ghost use Rattle.visits.specs.Found.{Starts, Kept};
-ghost use Rattle.visits.specs.Faults.{number_in};
 ghost use Rattle.visits.specs.Notes.{seen};
 ghost use Rattle.visits.specs.Visits.{act_of, Visits};
 
+use super::effects::answered;
 use super::fault::FaultKind;
 use super::notes::{Body, Notes};
 use super::tables::Tables;
@@ -25,7 +25,6 @@ use check_operands::step::{plain, step};
 use code::insn::Insn;
 use loaded::columns::{METHOD, RETURN};
 use loaded::{Counts, Loaded};
-use shapes::numbers::{FALLS_PAST, OTHER_SHAPE, TOO_FEW, TOO_MANY, WRONG_TYPE};
 
 // One instruction.
 pub fn visit(
@@ -46,11 +45,21 @@ pub fn visit(
         Held M m loaded.now.counts body.row body.max loaded.now.parents loaded.now.fields loaded.now.methods →
         length m.code ≡ body.size → Starts all body.size notes.old.starts →
         Fine (seen notes.old.pool) → Kept (seen notes.old.pool) body.size F notes.old.found →
-        Visits M m all F at i body.size (number_in result) notes.new.found (seen notes.new.pool)) }
+        Visits M m all F at i body.size result notes.new.found (seen notes.new.pool)) }
 {
     let g = group(&tables.groups, i.op);
     let s = shape_at(&mut notes.found, at);
-    let op = i.op as usize;
+    if BR <= g {
+        return visit_branch(
+            &notes.starts,
+            &notes.pool,
+            &mut notes.found,
+            body.size,
+            s,
+            g,
+            i,
+        );
+    }
     if g < CALL {
         let gives = body.row * METHOD + RETURN;
         let a = plain(
@@ -65,80 +74,28 @@ pub fn visit(
             loaded.methods[gives],
             body.max,
             g,
-            op,
+            i.op as usize,
             i.operand as usize,
         );
-        let v = arrived(
-            &notes.pool.tops,
-            &notes.pool.belows,
-            &notes.pool.heights,
-            &mut notes.found,
-            body.size,
-            i,
-            g,
-            a,
-        );
-        notes.pool.made = v.made;
-        return faulted(v.fault);
+        notes.pool.made = a.made;
+        return arrived(&notes.pool, &mut notes.found, body.size, i, g, answered(a));
     }
-    if g < BR {
-        let a = step(
-            loaded.counts,
-            &loaded.parents,
-            &loaded.fields,
-            &loaded.methods,
-            &mut notes.pool.tops,
-            &mut notes.pool.belows,
-            &mut notes.pool.heights,
-            notes.pool.made,
-            s,
-            body.max,
-            g,
-            i.operand,
-        );
-        let w = arrived(
-            &notes.pool.tops,
-            &notes.pool.belows,
-            &notes.pool.heights,
-            &mut notes.found,
-            body.size,
-            i,
-            g,
-            a,
-        );
-        notes.pool.made = w.made;
-        return faulted(w.fault);
-    }
-    faulted(visit_branch(
-        &notes.starts,
-        &notes.pool.tops,
-        &notes.pool.belows,
-        &notes.pool.heights,
-        &mut notes.found,
+    let a = step(
+        loaded.counts,
+        &loaded.parents,
+        &loaded.fields,
+        &loaded.methods,
+        &mut notes.pool.tops,
+        &mut notes.pool.belows,
+        &mut notes.pool.heights,
         notes.pool.made,
-        body.size,
         s,
+        body.max,
         g,
-        op,
-        i.next,
         i.operand,
-    ))
-}
-
-// A fault by its number, 0 where there is none.
-fn faulted(number: u8) -> Result<(), FaultKind>
-    ensures none { number ≡ 0 → number_in result ≡ number }
-    ensures some { 11 < number → number < 18 → number_in result ≡ number }
-{
-    match number {
-        0 => Ok(()),
-        TOO_FEW => Err(FaultKind::TooFew),
-        TOO_MANY => Err(FaultKind::TooMany),
-        WRONG_TYPE => Err(FaultKind::WrongType),
-        OTHER_SHAPE => Err(FaultKind::OtherShape),
-        FALLS_PAST => Err(FaultKind::FallsPast),
-        _ => Err(FaultKind::Operand),
-    }
+    );
+    notes.pool.made = a.made;
+    arrived(&notes.pool, &mut notes.found, body.size, i, g, answered(a))
 }
 
 // Whether an instruction has an operand fault, or a target that starts no instruction.

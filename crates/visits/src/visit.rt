@@ -1,22 +1,27 @@
-// One instruction of the check: its operand, its effect, where its shape arrives, and whether it can fall past the end.
-ghost use Rattle.std.specs.Prelude.{◌≡◌, true, List, [], ℕ, ◌≤◌, ◌<◌, length, get_or, set, IfSome};
+// One instruction of the check: where its shape arrives, its target, and whether it can fall past the end.
+ghost use Rattle.std.specs.Prelude.{◌≡◌, true, List, [], ℕ, ◌≤◌, ◌<◌, length, get_or, set, IfSome, IfOk};
 ghost use Rattle.std.proofs.Math.Option.{none, some};
 ghost use Rattle.model.specs.Answer.{map_option};
 ghost use Rattle.model.specs.Tables.{Method, Module};
 ghost use Rattle.model.specs.Code.{Ins, operands};
 ghost use Rattle.model.specs.Check.{Shape, Shapes, Site, meet, effect, jump_effect, shape_at};
 ghost use Rattle.code.specs.Operand.{held, maybe};
-ghost use Rattle.shapes.specs.Pool.{Pool, pool, Fine, Shows, Small, Effect, Takes};
+ghost use Rattle.shapes.specs.Pool.{Pool as Seen, Fine, Shows};
 ghost use Rattle.check_operands.specs.Groups.{group_of, ins_by, jump_by, target_by};
-ghost use Rattle.visits.specs.Found.{Kept, Starts, Met, Went, WentOn, WentBy, Lands, landing, goes_on, jumped};
+ghost use Rattle.visits.specs.Effects.{Agrees, Takes};
+ghost use Rattle.visits.specs.Found.{Kept, Starts, Read, Met, Went, WentBy, Lands, landing, goes_on, jumped};
+ghost use Rattle.visits.specs.Notes.{seen};
 ghost use Rattle.visits.specs.Visits.{Visits};
 
+use super::effects::answered;
+use super::fault::FaultKind;
+use super::notes::Pool;
 use check_operands::group::{BR, BR_EQUAL, BR_TEST, RET};
 use code::insn::Insn;
 use code::operand::{Distance, target};
 use shapes::effect::{test, when};
-use shapes::numbers::{ALIKE, FALLS_PAST, NUMBERS, OPERAND, OTHER_SHAPE};
-use shapes::shape::{After, EMPTY, SHAPES, fault, same};
+use shapes::numbers::{ALIKE, NUMBERS};
+use shapes::shape::{EMPTY, SHAPES, same};
 
 // The first opcode with a distance of four bytes.
 const FIRST_FAR: usize = 0x38;
@@ -24,28 +29,30 @@ const FIRST_FAR: usize = 0x38;
 // The longest code of a method.
 const MOST_CODE: usize = 1024;
 
+// The shape found at an offset.
+pub fn found_at(found: &[u16; 1024], o: usize) -> Option<usize>
+    ensures result_below { IfSome result (λ s. s < 2048) }
+    ensures read { (P : Seen) (n : ℕ) (F : Shapes) → Fine P → Kept P n F found.now → o < n → n ≤ 1024 → Read P result (get_or F o none) }
+{
+    let s = (*found.get(o)? % SHAPES) as usize;
+    (s != 0).then_some(s)
+}
+
 // An arrival: the first brings the shape, every later one must bring the same.
-pub fn meets(
-    tops: &[u8; 2048],
-    belows: &[u16; 2048],
-    heights: &[u8; 2048],
-    found: &mut [u16; 1024],
-    o: usize,
-    s: usize,
-) -> bool
+pub fn meets(pool: &Pool, found: &mut [u16; 1024], o: usize, s: usize) -> Result<(), FaultKind>
     requires o_below { o < 1024 }
     requires s_below { s < 2048 }
-    ensures { (k n : ℕ) (F : Shapes) (S : Shape) → Fine (pool tops.now belows.now heights.now k) →
-        Kept (pool tops.now belows.now heights.now k) n F found.old → o < n → n ≤ 1024 →
-        Shows (pool tops.now belows.now heights.now k) S s →
-        Met (pool tops.now belows.now heights.now k) n result found.new (meet F o S (get_or F o none)) }
+    ensures { (n : ℕ) (F : Shapes) (S : Shape) → Fine (seen pool.now) → Kept (seen pool.now) n F found.old → o < n → n ≤ 1024 →
+        Shows (seen pool.now) S s → Met (seen pool.now) n result found.new (meet F o S (get_or F o none)) }
 {
-    let f = (found[o] % SHAPES) as usize;
-    if f == 0 {
+    let Some(f) = found_at(found, o) else {
         found[o] = s as u16;
-        return true;
+        return Ok(());
+    };
+    if same(&pool.tops, &pool.belows, &pool.heights, s, f) {
+        return Ok(());
     }
-    same(tops, belows, heights, s, f)
+    Err(FaultKind::OtherShape)
 }
 
 // Where a branch goes, by the width of its distance.
@@ -72,187 +79,111 @@ pub fn lands(starts: &[u8; 1024], size: usize, op: usize, next: usize, d: u64) -
 }
 
 // The effect of a branch: 33 br, 34 brtrue and brfalse, 35 beq and bne.un, else another comparison.
-pub fn branch(
-    tops: &[u8; 2048],
-    belows: &[u16; 2048],
-    heights: &[u8; 2048],
-    made: usize,
-    s: usize,
-    g: u8,
-) -> After
-    requires made_below { made < 2048 }
+pub fn branch(pool: &Pool, s: usize, g: u8) -> Result<usize, FaultKind>
+    requires made_below { pool.now.made < 2048 }
     requires s_below { s < 2048 }
-    ensures small { Small result made }
-    ensures effect { (Effect (pool tops.now belows.now heights.now made)
-        (pool tops.now belows.now heights.now made) result s (jump_effect (jump_by g))) }
+    ensures shape_below { IfOk result (λ r. r < 2048) }
+    ensures agrees { (S : Shape) → Fine (seen pool.now) → Shows (seen pool.now) S s → Agrees (seen pool.now) result (jump_effect (jump_by g) S) }
 {
-    if g == BR {
-        return After {
-            fault: 0,
-            shape: s,
-            made,
-        };
+    match g {
+        BR => Ok(s),
+        BR_TEST => answered(test(&pool.tops, &pool.belows, &pool.heights, pool.made, s)),
+        BR_EQUAL => answered(when(&pool.tops, &pool.belows, &pool.heights, pool.made, s, ALIKE)),
+        _ => answered(when(
+            &pool.tops,
+            &pool.belows,
+            &pool.heights,
+            pool.made,
+            s,
+            NUMBERS,
+        )),
     }
-    if g == BR_TEST {
-        return test(tops, belows, heights, made, s);
-    }
-    if g == BR_EQUAL {
-        return when(tops, belows, heights, made, s, ALIKE);
-    }
-    when(tops, belows, heights, made, s, NUMBERS)
 }
 
-// What an instruction that can fall through brings to the next; 17 where there is none.
-pub fn onward(
-    tops: &[u8; 2048],
-    belows: &[u16; 2048],
-    heights: &[u8; 2048],
+// The arrival at the next instruction, for one that can fall through.
+fn onward(
+    pool: &Pool,
     found: &mut [u16; 1024],
     size: usize,
     next: usize,
     s: usize,
-) -> u8
+) -> Result<(), FaultKind>
     requires size_at_most { size ≤ 1024 }
     requires s_below { s < 2048 }
-    ensures { (k : ℕ) (F : Shapes) (S : Shape) → Fine (pool tops.now belows.now heights.now k) →
-        Kept (pool tops.now belows.now heights.now k) size F found.old →
-        Shows (pool tops.now belows.now heights.now k) S s →
-        Went (pool tops.now belows.now heights.now k) size result found.new (goes_on size F true next [] S) }
+    ensures { (F : Shapes) (S : Shape) → Fine (seen pool.now) → Kept (seen pool.now) size F found.old → Shows (seen pool.now) S s →
+        Went (seen pool.now) size result found.new (goes_on size F true next [] S) }
 {
     if size <= next {
-        return FALLS_PAST;
+        return Err(FaultKind::FallsPast);
     }
-    if meets(tops, belows, heights, found, next, s) {
-        return 0;
-    }
-    OTHER_SHAPE
+    meets(pool, found, next, s)
 }
 
-// What a visit leaves: a fault or 0, and how many shapes are made.
-#[derive(Clone, Copy)]
-pub struct Visited {
-    pub fault: u8,
-    pub made: usize,
-}
-
-// After the effect of an instruction that is no branch: its fault, nothing after ret (group 3), or the arrival at the next instruction.
+// After the effect of an instruction that is no branch: its fault, nothing after ret, or the arrival at the next instruction.
 pub fn arrived(
-    tops: &[u8; 2048],
-    belows: &[u16; 2048],
-    heights: &[u8; 2048],
+    pool: &Pool,
     found: &mut [u16; 1024],
     size: usize,
     i: Insn,
     g: u8,
-    a: After,
-) -> Visited
+    after: Result<usize, FaultKind>,
+) -> Result<(), FaultKind>
     requires size_at_most { size ≤ 1024 }
-    requires shape_below { a.shape < 2048 }
-    ensures made_is { result.made ≡ a.made }
-    ensures visits { ((M : Module) (m : Method) (all : List (Site Ins)) (F : Shapes) (o : ℕ) → length m.code ≡ size →
-        g ≡ group_of i.op → g < 33 → Fine (pool tops.now belows.now heights.now a.made) →
-        Kept (pool tops.now belows.now heights.now a.made) size (set F o (some (shape_at F o)))
-        found.old →
-        Takes (pool tops.now belows.now heights.now a.made) a (λ x. effect M m x (shape_at F o))
-        (operands M m (ins_by g i.op i.operand 0)) →
-        Visits M m all F o i size result.fault found.new (pool tops.now belows.now heights.now result.made)) }
+    requires shape_below { IfOk after (λ s. s < 2048) }
+    ensures { (M : Module) (m : Method) (all : List (Site Ins)) (F : Shapes) (o : ℕ) → length m.code ≡ size → g ≡ group_of i.op → g < 33 →
+        Fine (seen pool.now) → Kept (seen pool.now) size (set F o (some (shape_at F o))) found.old →
+        Takes (seen pool.now) after (λ x. effect M m x (shape_at F o)) (operands M m (ins_by g i.op i.operand 0)) →
+        Visits M m all F o i size result found.new (seen pool.now) }
 {
-    if a.fault != 0 {
-        return Visited {
-            fault: a.fault,
-            made: a.made,
-        };
-    }
+    let s = after?;
     if g == RET {
-        return Visited {
-            fault: 0,
-            made: a.made,
-        };
+        return Ok(());
     }
-    Visited {
-        fault: onward(tops, belows, heights, found, size, i.next, a.shape),
-        made: a.made,
-    }
+    onward(pool, found, size, i.next, s)
 }
 
 // A branch: its target, its effect, then the arrivals at the next instruction and at the target.
 pub fn visit_branch(
     starts: &[u8; 1024],
-    tops: &[u8; 2048],
-    belows: &[u16; 2048],
-    heights: &[u8; 2048],
+    pool: &Pool,
     found: &mut [u16; 1024],
-    made: usize,
     size: usize,
     s: usize,
     g: u8,
-    op: usize,
-    next: usize,
-    d: u64,
-) -> u8
+    i: Insn,
+) -> Result<(), FaultKind>
     requires size_at_most { size ≤ 1024 }
-    requires made_below { made < 2048 }
+    requires made_below { pool.now.made < 2048 }
     requires s_below { s < 2048 }
     ensures { (all : List (Site Ins)) (F : Shapes) (S : Shape) → Starts all size starts.now →
-        Fine (pool tops.now belows.now heights.now made) →
-        Kept (pool tops.now belows.now heights.now made) size F found.old →
-        Shows (pool tops.now belows.now heights.now made) S s →
-        WentBy (pool tops.now belows.now heights.now made) size result
-        found.new (jumped size F (jump_by g) next S) (landing all size (target_by op next d)) }
+        Fine (seen pool.now) → Kept (seen pool.now) size F found.old → Shows (seen pool.now) S s →
+        WentBy (seen pool.now) size result found.new (jumped size F (jump_by g) i.next S) (landing all size (target_by i.op i.next i.operand)) }
 {
-    let Some(t) = lands(starts, size, op, next, d) else {
-        return OPERAND;
+    let Some(t) = lands(starts, size, i.op as usize, i.next, i.operand) else {
+        return Err(FaultKind::Operand);
     };
-    let a = branch(tops, belows, heights, made, s, g);
-    if a.fault != 0 {
-        return a.fault;
-    }
+    let r = branch(pool, s, g)?;
     if g == BR {
-        return arrives(tops, belows, heights, found, t, a.shape, 0);
+        return meets(pool, found, t, r);
     }
-    if size <= next {
-        return arrives(tops, belows, heights, found, t, a.shape, FALLS_PAST);
+    if size <= i.next {
+        meets(pool, found, t, r)?;
+        return Err(FaultKind::FallsPast);
     }
-    if meets(tops, belows, heights, found, next, a.shape) {
-        return arrives(tops, belows, heights, found, t, a.shape, 0);
-    }
-    OTHER_SHAPE
-}
-
-// 16 where the shape found is another, else what follows.
-fn arrives(
-    tops: &[u8; 2048],
-    belows: &[u16; 2048],
-    heights: &[u8; 2048],
-    found: &mut [u16; 1024],
-    o: usize,
-    s: usize,
-    after: u8,
-) -> u8
-    requires o_below { o < 1024 }
-    requires s_below { s < 2048 }
-    ensures { (k n : ℕ) (F : Shapes) (S : Shape) → Fine (pool tops.now belows.now heights.now k) →
-        Kept (pool tops.now belows.now heights.now k) n F found.old → o < n → n ≤ 1024 →
-        Shows (pool tops.now belows.now heights.now k) S s →
-        WentOn (pool tops.now belows.now heights.now k) n result found.new after (meet F o S (get_or F o none)) }
-{
-    if meets(tops, belows, heights, found, o, s) {
-        return after;
-    }
-    OTHER_SHAPE
+    meets(pool, found, i.next, r)?;
+    meets(pool, found, t, r)
 }
 
 // The shape at an instruction, empty where none comes.
 pub fn shape_at(found: &mut [u16; 1024], o: usize) -> usize
     requires { o < 1024 }
     ensures result_below { result < 2048 }
-    ensures shows { ((Q : Pool) (n : ℕ) (F : Shapes) → Fine Q → Kept Q n F found.old → o < n → n ≤ 1024 →
-        Shows Q (shape_at F o) result × Kept Q n (set F o (some (shape_at F o))) found.new) }
+    ensures shows { (P : Seen) (n : ℕ) (F : Shapes) → Fine P → Kept P n F found.old → o < n → n ≤ 1024 →
+        Shows P (shape_at F o) result × Kept P n (set F o (some (shape_at F o))) found.new }
 {
-    let f = (found[o] % SHAPES) as usize;
-    if f == 0 {
-        found[o] = 1;
+    let Some(s) = found_at(found, o) else {
+        found[o] = EMPTY as u16;
         return EMPTY;
-    }
-    f
+    };
+    s
 }

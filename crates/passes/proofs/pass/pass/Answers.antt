@@ -1,5 +1,4 @@
-use Rattle.passes.proofs.Loops.{going_start, going_end, after, going_operand, going_next, going_fault, reading_size, reading_some, reading_on, reading_next, only_operand}
-use Rattle.visits.specs.Faults.{number}
+use Rattle.passes.proofs.Loops.{going_start, going_end, after, going_operand, going_next, going_fault, reading_size, reading_some, reading_on, reading_next}
 use Rattle.visits.specs.Notes.{seen}
 use lib.ListN.{length}
 use native.Mathlib.Omega.{arith}
@@ -21,7 +20,7 @@ returns-in-Operand c =
     λ M m all H e st q f k.
     let s = c.loop-at.invariant.2 M m all H e st q f k in (
       going_operand M m all c.args.code.now (seen c.loop-at.notes.pool) c.loop-at.notes.found c.loop-at.at s.1 c.loop-at-test.true _
-          c.known-i.ensures.decode_is w _ _ _ (c.in-Err.ensures.visits M m all s.1.shapes H (ap length e) s.0 s.1.fine s.1.kept) c.in-Err.kind refl (ap number c.in-Operand.is),
+          c.known-i.ensures.decode_is w _ _ _ (c.in-Err.ensures.visits M m all s.1.shapes H (ap length e) s.0 s.1.fine s.1.kept) c.in-Err.kind refl c.in-Operand.is,
       λ z. absurd (cc),
     )
 
@@ -39,7 +38,7 @@ returns-in_default-kind c =
     let n = after M m all c.args.code.now (seen c.loop-at.notes.pool) c.loop-at.notes.found c.loop-at.at s.1 c.loop-at-test.true _
     c.known-i.ensures.decode_is w _ _ _ v in (
       going_fault M m all c.args.code.now (seen c.loop-at.notes.pool) c.loop-at.notes.found c.loop-at.at s.1 c.loop-at-test.true _
-          c.known-i.ensures.decode_is w _ _ _ v c.in-Err.kind c.late.result refl (λ z. c.in_default-kind.not-Operand (only_operand _ z)) (c.late.ensures M m all n.more _ H e (rw c.visit.ensures.starts_stay s.0) n.rest),
+          c.known-i.ensures.decode_is w _ _ _ v c.in-Err.kind c.late.result refl c.in_default-kind.not-Operand (c.late.ensures M m all n.more _ H e (rw c.visit.ensures.starts_stay s.0) n.rest),
       λ z. absurd (cc),
     )
 

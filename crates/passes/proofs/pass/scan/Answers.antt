@@ -15,7 +15,7 @@ size_at-size-requires c = record { lengths = c.requires.lengths; at_inside = c.l
 pub returns-then-size-eq0 : goal.returns-then-size-eq0
 returns-then-size-eq0 c =
     scanning_stop _ _ _ c.loop-at.invariant c.loop-at-test.true
-    (no_size c.args.code.now c.loop-at.at (omega (arith, c.shared_slice_known-1.given c.loop-at.at)) (sym c.size_at-size.ensures.result_is ∙ c.if-size-eq0.true))
+    (no_size c.args.code.now c.loop-at.at (omega (arith, c.type_inv.code c.loop-at.at)) (sym c.size_at-size.ensures.result_is ∙ c.if-size-eq0.true))
 
 pub overflow_cast-starts : goal.overflow_cast-starts
 overflow_cast-starts c =

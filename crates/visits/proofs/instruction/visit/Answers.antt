@@ -1,4 +1,4 @@
-use Rattle.visits.proofs.Visiting.{marked, branch_visit, by_number}
+use Rattle.visits.proofs.Visiting.{marked, branch_visit}
 use Rattle.check_operands.proofs.Operands.{renamed, ins_plain}
 use Rattle.visits.proofs.Arrivals.{kept_later}
 use Rattle.visits.specs.Notes.{seen}
@@ -8,6 +8,14 @@ use native.Mathlib.Omega.{arith}
 use mathlib.Core.Path.{ap}
 use Rattle.visits.proofs.instruction.visit.Goals as goal
 
+pub returns-then-g-ge-BR-clause-visits : goal.returns-then-g-ge-BR-clause-visits
+returns-then-g-ge-BR-clause-visits c =
+    λ M m all F H z st f k.
+    let P = seen c.args.notes.now.pool in
+    let sh = c.shape_at-s.ensures.shows P c.args.body.size F f k c.requires.at_below c.requires.size_at_most in
+    branch_visit M m all F c.args.at c.args.i c.args.body.size _ _ P _ (c.group-g.ensures c.args.tables.now.right_groups) c.if-g-ge-BR.true z
+    (c.visit_branch.ensures all (marked F c.args.at) (shape_at F c.args.at) st f sh.1 sh.0) f
+
 pub returns-then-g-lt-CALL-clause-visits : goal.returns-then-g-lt-CALL-clause-visits
 returns-then-g-lt-CALL-clause-visits c =
     λ M m all F H z st f k.
@@ -15,25 +23,14 @@ returns-then-g-lt-CALL-clause-visits c =
     let sh = c.shape_at-s.ensures.shows P c.args.body.size F f k c.requires.at_below c.requires.size_at_most in
     let t = renamed P _ _ (λ a. effect M m a (shape_at F c.args.at)) _ _ (ap (operands M m) (ins_plain _ _ _ _ c.if-g-lt-CALL.true))
     (c.plain-a.ensures.operand M m H.by_class.parent H.own f (shape_at F c.args.at) sh.0) in
-    by_number M m all F c.args.at c.args.i c.args.body.size _ _ _ _ c.faulted.ensures.none c.faulted.ensures.some
-    (c.arrived-v.ensures.visits M m all F c.args.at z (c.group-g.ensures c.args.tables.now.right_groups) (omega arith) t.1.fine
-    (kept_later P _ _ _ _ f t.1 sh.1) t.0)
-
-pub returns-then-g-lt-BR-clause-visits : goal.returns-then-g-lt-BR-clause-visits
-returns-then-g-lt-BR-clause-visits c =
-    λ M m all F H z st f k.
-    let P = seen c.args.notes.now.pool in
-    let sh = c.shape_at-s.ensures.shows P c.args.body.size F f k c.requires.at_below c.requires.size_at_most in
-    let t = c.step-a.ensures.operand M m c.args.i.op H.own.most H.by_class H.by_field H.by_method c.if-g-lt-BR.true f (shape_at F c.args.at) sh.0 in
-    by_number M m all F c.args.at c.args.i c.args.body.size _ _ _ _ c.faulted-then-g-lt-BR.ensures.none c.faulted-then-g-lt-BR.ensures.some
-    (c.arrived-w.ensures.visits M m all F c.args.at z (c.group-g.ensures c.args.tables.now.right_groups) c.if-g-lt-BR.true t.1.fine
-    (kept_later P _ _ _ _ f t.1 sh.1) t.0)
+    c.arrived.ensures M m all F c.args.at z (c.group-g.ensures c.args.tables.now.right_groups) (omega arith) t.1.fine
+    (kept_later P _ _ _ _ f t.1 sh.1) (c.answered.ensures.takes _ _ _ t.0)
 
 pub returns-clause-visits : goal.returns-clause-visits
 returns-clause-visits c =
     λ M m all F H z st f k.
     let P = seen c.args.notes.now.pool in
     let sh = c.shape_at-s.ensures.shows P c.args.body.size F f k c.requires.at_below c.requires.size_at_most in
-    by_number M m all F c.args.at c.args.i c.args.body.size _ _ _ _ c.faulted-2.ensures.none c.faulted-2.ensures.some
-    (branch_visit M m all F c.args.at c.args.i c.args.body.size _ _ P _ (c.group-g.ensures c.args.tables.now.right_groups) c.if-g-lt-BR.false z
-    (c.visit_branch.ensures all (marked F c.args.at) (shape_at F c.args.at) st f sh.1 sh.0) f)
+    let t = c.step-a.ensures.operand M m c.args.i.op H.own.most H.by_class H.by_field H.by_method c.if-g-ge-BR.false f (shape_at F c.args.at) sh.0 in
+    c.arrived-2.ensures M m all F c.args.at z (c.group-g.ensures c.args.tables.now.right_groups) c.if-g-ge-BR.false t.1.fine
+    (kept_later P _ _ _ _ f t.1 sh.1) (c.answered-2.ensures.takes _ _ _ t.0)

@@ -1,26 +1,19 @@
+use Rattle.visits.proofs.Arrivals.{agrees_shape}
 use Rattle.visits.proofs.Branches.{jump_always, jump_test, jump_same, jump_order}
-use Rattle.shapes.proofs.Replies.{leaves, told}
-use Rattle.shapes.specs.Pool.{pool}
-use mathlib.Core.Path.{refl}
-use borrow.Author.Rules.{rules}
+use native.Mathlib.Omega.{arith}
 use Rattle.visits.proofs.visit.branch.Goals as goal
 
-pub returns-then-g-eq-BR : goal.returns-then-g-eq-BR
-returns-then-g-eq-BR c = let start = c in
-    record {
-      small = search rules;
-      effect = λ f S w. leaves ((pool start.args.tops.now start.args.belows.now start.args.heights.now start.args.made)) (record { fault = 0; shape = start.args.s; made = start.args.made }) S _
-          (jump_always _ S c.if-g-eq-BR.true) refl refl w f;
-    }
+pub returns-in-33-clause-agrees : goal.returns-in-33-clause-agrees
+returns-in-33-clause-agrees c = λ S f w. agrees_shape _ _ _ S (jump_always _ S c.in-33.is) w
 
-pub returns-then-g-eq-BR_TEST : goal.returns-then-g-eq-BR_TEST
-returns-then-g-eq-BR_TEST c = record { small = c.test.ensures.small; effect = λ f S w. told _ _ _ _ _ (jump_test _ S c.if-g-eq-BR_TEST.true) (c.test.ensures.effect f S w) }
+pub returns-in-34-clause-agrees : goal.returns-in-34-clause-agrees
+returns-in-34-clause-agrees c = λ S f w. rw (jump_test _ S c.in-34.is) (c.answered.ensures.agrees _ _ (c.test.ensures.effect f S w).0)
 
-pub returns-then-g-eq-BR_EQUAL : goal.returns-then-g-eq-BR_EQUAL
-returns-then-g-eq-BR_EQUAL c = record { small = c.when.ensures.small; effect = λ f S w. told _ _ _ _ _ (jump_same _ S c.if-g-eq-BR_EQUAL.true) (c.when.ensures.effect f S w) }
+pub returns-in-35-clause-agrees : goal.returns-in-35-clause-agrees
+returns-in-35-clause-agrees c = λ S f w. rw (jump_same _ S c.in-35.is) (c.answered-in-35.ensures.agrees _ _ (c.when.ensures.effect f S w).0)
 
-pub returns : goal.returns
-returns c = let the-if1 = c.if-g-eq-BR in
-    let the-if2 = c.if-g-eq-BR_TEST in
-    let the-if3 = c.if-g-eq-BR_EQUAL in
-    record { small = c.when-2.ensures.small; effect = λ f S w. told _ _ _ _ _ (jump_order _ S the-if1.false the-if2.false the-if3.false) (c.when-2.ensures.effect f S w) }
+pub returns-in_default-clause-agrees : goal.returns-in_default-clause-agrees
+returns-in_default-clause-agrees c =
+    λ S f w.
+    rw (jump_order c.args.g S (λ e. absurd (omega arith)) (λ e. absurd (omega arith)) (λ e. absurd (omega arith)))
+    (c.answered-in_default.ensures.agrees _ _ (c.when-in_default.ensures.effect f S w).0)

@@ -1,20 +1,19 @@
-use Rattle.visits.proofs.Arrivals.{first_arrival, later_arrival, stood}
-use Rattle.shapes.specs.Pool.{pool}
+use Rattle.visits.proofs.Arrivals.{first_arrival, later_same, later_other, read_some}
+use Rattle.visits.specs.Notes.{seen}
+use mathlib.Core.Path.{sym, ◌∙◌}
 use Rattle.visits.proofs.visit.meets.Goals as goal
 
-pub returns-then-f-eq0 : goal.returns-then-f-eq0
-returns-then-f-eq0 c =
-    let start = c in
-    λ k n F S f q h b w. first_arrival (pool start.args.tops.now start.args.belows.now start.args.heights.now k) n F _ _ f q h b S _
-    c.if-f-eq0.true w
+pub returns-in_default : goal.returns-in_default
+returns-in_default c = λ n F S f k h b w. first_arrival (seen c.args.pool.now) n F _ _ f k h b S _ (c.in_default.ensures.read _ n F f k h b) w
+
+pub returns-then-same : goal.returns-then-same
+returns-then-same c =
+    λ n F S f k h b w.
+    let s = read_some (seen c.args.pool.now) _ _ (c.in-Some.ensures.read _ n F f k h b) in
+    later_same (seen c.args.pool.now) n F _ _ f k h b S _ s (sym c.if-same.true ∙ c.same.ensures _ S s.shape f w s.shows)
 
 pub returns : goal.returns
 returns c =
-    let start = c in
-    let the-if1 = c.if-f-eq0 in
-    λ k n F S f q h b w.
-    let s = stood (pool start.args.tops.now start.args.belows.now start.args.heights.now k) n F start.args.found.now
-    start.args.o f q h b the-if1.false in
-    later_arrival (pool start.args.tops.now start.args.belows.now start.args.heights.now k) n F start.args.found.now
-    start.args.o f q h b S _ the-if1.false
-    (c.same.ensures k S s.shape f w s.shows)
+    λ n F S f k h b w.
+    let s = read_some (seen c.args.pool.now) _ _ (c.in-Some.ensures.read _ n F f k h b) in
+    later_other (seen c.args.pool.now) n F _ _ f k h b S _ s (sym c.if-same.false ∙ c.same.ensures _ S s.shape f w s.shows)

@@ -1,85 +1,63 @@
-use Rattle.visits.proofs.Arrivals.{by_none, by_some, lost, landed, passed, branch_failed, branch_only, branch_last, arrived, branch_both}
-use Rattle.visits.proofs.Arrivals.{branch_other, falls_not, falls_on}
-use Rattle.model.specs.Check.{jump_effect}
-use Rattle.check_operands.specs.Groups.{jump_by}
-use Rattle.shapes.specs.Pool.{pool}
-use mathlib.Core.Path.{refl}
+use Rattle.visits.proofs.Arrivals.{by_none, by_some, lost, landed, passed, arrived, falls_not, falls_on}
+use Rattle.visits.proofs.Arrivals.{branch_failed, branch_only, branch_last, branch_last_failed, branch_next_failed, branch_both}
+use Rattle.std.proofs.lemmas.Result.{err_from_is_err_and}
 use Rattle.visits.proofs.visit.visit_branch.Goals as goal
 
 pub returns-in_default : goal.returns-in_default
-returns-in_default c =
-    let start = c in
-    let the-lands = c.lands in
-    λ all F S m f k w. by_none ((pool start.args.tops.now start.args.belows.now start.args.heights.now start.args.made)) _ _ _ _ _ (lost _ _ _ (the-lands.ensures.lands all start.requires.size_at_most m) c.in_default.is) refl
+returns-in_default c = λ all F S m f k w. by_none _ _ _ _ _ (lost _ _ _ (c.lands.ensures.lands all c.requires.size_at_most m) c.in_default.is)
 
-pub returns-then-a-ne0 : goal.returns-then-a-ne0
-returns-then-a-ne0 c =
-    let start = c in
-    let the-lands = c.lands in
-    let the-branch = c.branch-a in
+pub returns-in_err-r : goal.returns-in_err-r
+returns-in_err-r c =
     λ all F S m f k w.
-    by_some ((pool start.args.tops.now start.args.belows.now start.args.heights.now start.args.made)) _ _ _ _ _ _ (landed _ _ _ _ (the-lands.ensures.lands all start.requires.size_at_most m) c.in-Some.is).0
-    (branch_failed ((pool start.args.tops.now start.args.belows.now start.args.heights.now start.args.made)) the-branch.result _ F _ _ S _ _ (the-branch.ensures.effect f S w).0 c.if-a-ne0.true)
+    let p = err_from_is_err_and c.from_residual.result c.from_residual.ensures.1 in
+    let d = landed _ _ _ _ (c.lands.ensures.lands all c.requires.size_at_most m) c.in-Some.is in
+    rw (p.1, p.2) (by_some _ _ _ _ _ _ _ d.0 (branch_failed _ _ F _ _ S _ _ _ (c.in_err-r.ensures.agrees S f w)))
 
 pub returns-then-g-eq-BR : goal.returns-then-g-eq-BR
 returns-then-g-eq-BR c =
-    let start = c in
-    let the-lands = c.lands in
-    let the-branch = c.branch-a in
-    let the-if2 = c.if-a-ne0 in
-    let the-if3 = c.if-g-eq-BR in
     λ all F S m f k w.
-    let d = landed _ _ _ _ (the-lands.ensures.lands all start.requires.size_at_most m) c.in-Some.is in
-    let p = passed ((pool start.args.tops.now start.args.belows.now start.args.heights.now start.args.made)) the-branch.result (jump_effect (jump_by start.args.g) S) (the-branch.ensures.effect f S w).0 the-if2.false in
-    by_some ((pool start.args.tops.now start.args.belows.now start.args.heights.now start.args.made)) _ _ _ _ _ c.in-Some.t d.0
-    (branch_only ((pool start.args.tops.now start.args.belows.now start.args.heights.now start.args.made)) _ _ F _ _ S p.shape _ _ p.is (falls_not _ the-if3.true)
-    (c.arrives.ensures _ _ F p.shape f k d.1 start.requires.size_at_most p.shows))
+    let d = landed _ _ _ _ (c.lands.ensures.lands all c.requires.size_at_most m) c.in-Some.is in
+    let q = passed _ _ _ (c.in_ok-r.ensures.agrees S f w) in
+    by_some _ _ _ _ _ _ _ d.0
+    (branch_only _ _ F _ _ S _ _ q.shape q.is _ (falls_not _ c.if-g-eq-BR.true) (c.meets.ensures _ F q.shape f k d.1 c.requires.size_at_most q.shows))
 
-pub returns-then-size-next : goal.returns-then-size-next
-returns-then-size-next c =
-    let start = c in
-    let the-lands = c.lands in
-    let the-branch = c.branch-a in
-    let the-if2 = c.if-a-ne0 in
-    let the-if3 = c.if-g-eq-BR in
-    let the-if4 = c.if-size-next in
+pub returns-in_err-meets : goal.returns-in_err-meets
+returns-in_err-meets c =
     λ all F S m f k w.
-    let d = landed _ _ _ _ (the-lands.ensures.lands all start.requires.size_at_most m) c.in-Some.is in
-    let p = passed ((pool start.args.tops.now start.args.belows.now start.args.heights.now start.args.made)) the-branch.result (jump_effect (jump_by start.args.g) S) (the-branch.ensures.effect f S w).0 the-if2.false in
-    by_some ((pool start.args.tops.now start.args.belows.now start.args.heights.now start.args.made)) _ _ _ _ _ c.in-Some.t d.0
-    (branch_last ((pool start.args.tops.now start.args.belows.now start.args.heights.now start.args.made)) _ _ F _ _ S p.shape _ _ p.is (falls_on _ the-if3.false) the-if4.true
-    (c.arrives-then-size-next.ensures _ _ F p.shape f k d.1 start.requires.size_at_most p.shows))
+    let p = err_from_is_err_and c.from_residual-in_err-meets.result c.from_residual-in_err-meets.ensures.1 in
+    let d = landed _ _ _ _ (c.lands.ensures.lands all c.requires.size_at_most m) c.in-Some.is in
+    let q = passed _ _ _ (c.in_ok-r.ensures.agrees S f w) in
+    rw (p.1, p.2)
+    (by_some _ _ _ _ _ _ _ d.0
+    (branch_last_failed _ _ F _ _ S _ _ q.shape q.is (falls_on _ c.if-g-eq-BR.false) _ c.if-size-i.true
+    (c.in_err-meets.ensures _ F q.shape f k d.1 c.requires.size_at_most q.shows)))
 
-pub returns-then-meets : goal.returns-then-meets
-returns-then-meets c =
-    let start = c in
-    let the-lands = c.lands in
-    let the-branch = c.branch-a in
-    let the-if2 = c.if-a-ne0 in
-    let the-if3 = c.if-g-eq-BR in
-    let the-if4 = c.if-size-next in
-    let the-meets = c.meets in
-    let the-if5 = c.if-meets in
+pub returns-then-size-i : goal.returns-then-size-i
+returns-then-size-i c =
     λ all F S m f k w.
-    let d = landed _ _ _ _ (the-lands.ensures.lands all start.requires.size_at_most m) c.in-Some.is in
-    let p = passed ((pool start.args.tops.now start.args.belows.now start.args.heights.now start.args.made)) the-branch.result (jump_effect (jump_by start.args.g) S) (the-branch.ensures.effect f S w).0 the-if2.false in
-    let a = arrived ((pool start.args.tops.now start.args.belows.now start.args.heights.now start.args.made)) _ _ _ _ (the-meets.ensures _ _ F p.shape f k the-if4.false start.requires.size_at_most p.shows) the-if5.true in
-    by_some ((pool start.args.tops.now start.args.belows.now start.args.heights.now start.args.made)) _ _ _ _ _ c.in-Some.t d.0
-    (branch_both ((pool start.args.tops.now start.args.belows.now start.args.heights.now start.args.made)) _ _ F a.found _ _ S p.shape _ _ p.is (falls_on _ the-if3.false) the-if4.false a.is
-    (c.arrives-then-meets.ensures _ _ a.found p.shape f a.kept d.1 start.requires.size_at_most p.shows))
+    let d = landed _ _ _ _ (c.lands.ensures.lands all c.requires.size_at_most m) c.in-Some.is in
+    let q = passed _ _ _ (c.in_ok-r.ensures.agrees S f w) in
+    by_some _ _ _ _ _ _ _ d.0
+    (branch_last _ _ F _ _ S _ _ q.shape q.is (falls_on _ c.if-g-eq-BR.false) c.if-size-i.true
+    (c.in_ok-meets.ensures _ F q.shape f k d.1 c.requires.size_at_most q.shows))
+
+pub returns-in_err-meets-2 : goal.returns-in_err-meets-2
+returns-in_err-meets-2 c =
+    λ all F S m f k w.
+    let p = err_from_is_err_and c.from_residual-in_err-meets-2.result c.from_residual-in_err-meets-2.ensures.1 in
+    let d = landed _ _ _ _ (c.lands.ensures.lands all c.requires.size_at_most m) c.in-Some.is in
+    let q = passed _ _ _ (c.in_ok-r.ensures.agrees S f w) in
+    rw (p.1, p.2)
+    (by_some _ _ _ _ _ _ _ d.0
+    (branch_next_failed _ _ F _ _ S _ _ q.shape q.is (falls_on _ c.if-g-eq-BR.false) _ c.if-size-i.false
+    (c.in_err-meets-2.ensures _ F q.shape f k c.if-size-i.false c.requires.size_at_most q.shows)))
 
 pub returns : goal.returns
 returns c =
-    let start = c in
-    let the-lands = c.lands in
-    let the-branch = c.branch-a in
-    let the-if2 = c.if-a-ne0 in
-    let the-if3 = c.if-g-eq-BR in
-    let the-if4 = c.if-size-next in
-    let the-meets = c.meets in
     λ all F S m f k w.
-    let d = landed _ _ _ _ (the-lands.ensures.lands all start.requires.size_at_most m) c.in-Some.is in
-    let p = passed ((pool start.args.tops.now start.args.belows.now start.args.heights.now start.args.made)) the-branch.result (jump_effect (jump_by start.args.g) S) (the-branch.ensures.effect f S w).0 the-if2.false in
-    by_some ((pool start.args.tops.now start.args.belows.now start.args.heights.now start.args.made)) _ _ _ _ _ c.in-Some.t d.0
-    (branch_other ((pool start.args.tops.now start.args.belows.now start.args.heights.now start.args.made)) _ F _ _ S p.shape _ _ _ p.is (falls_on _ the-if3.false) the-if4.false
-    (the-meets.ensures _ _ F p.shape f k the-if4.false start.requires.size_at_most p.shows) c.if-meets.false)
+    let d = landed _ _ _ _ (c.lands.ensures.lands all c.requires.size_at_most m) c.in-Some.is in
+    let q = passed _ _ _ (c.in_ok-r.ensures.agrees S f w) in
+    let a = arrived _ _ _ _ (c.in_ok-meets-2.ensures _ F q.shape f k c.if-size-i.false c.requires.size_at_most q.shows) in
+    by_some _ _ _ _ _ _ _ d.0
+    (branch_both _ _ F _ _ S _ _ q.shape q.is (falls_on _ c.if-g-eq-BR.false) _ a.found c.if-size-i.false a.is
+    (c.meets-3.ensures _ a.found q.shape f a.kept d.1 c.requires.size_at_most q.shows))
