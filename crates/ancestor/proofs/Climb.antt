@@ -50,7 +50,7 @@ at_past [] k h = refl
 at_past (x ∷ l) zero h = absurd (omega arith)
 at_past (x ∷ l) (suc k) h = at_past l k (omega arith)
 
-beyond : (ps : List ℕ) (c : ℕ) → length ps < c → parent_of ps c ≡ 0
+pub beyond : (ps : List ℕ) (c : ℕ) → length ps < c → parent_of ps c ≡ 0
 unfolding parent_of or_else row
 beyond ps zero h = refl
 beyond ps (suc c) h = ap (λ (o : Option ℕ). or_else o 0) (at_past ps c (omega arith))

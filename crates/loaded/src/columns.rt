@@ -1,7 +1,9 @@
 // What stands where in a row.
 
-// Of a method: how many bytes a row has, where the types of its locals begin, then its columns.
+// Of a method: how many bytes a row has, where the types of its arguments and of its locals begin, then its columns.
 pub const METHOD: usize = 32;
+
+pub const ARGUMENTS: usize = 0;
 
 pub const LOCALS: usize = 8;
 

@@ -1,16 +1,15 @@
--- Classes: parents fall, the ancestor test goes from row to parent row, and a class's record keeps what stands.
+-- Classes: parents fall, and a class's record keeps what stands.
 use mathlib.Core.Path.{◌≡◌, refl, sym, ap, ◌∙◌, subst}
-use Prim.Native.Nat.{ℕ, zero, suc, ◌+◌, ◌≤◌, ◌<◌}
-use mathlib.Core.Bool.{Bool, true, false, ◌||◌}
+use Prim.Native.Nat.{ℕ, zero, suc, ◌+◌, ◌<◌}
 use mathlib.Core.Option.{Option}
 use mathlib.Core.List.{List, [], ◌∷◌, ◌++◌}
 use native.Mathlib.Omega.{arith}
 use native.Mathlib.Decide.{ℕ_discrete}
 use lib.ListN.{length, get_or, set}
-use lib.Dec.{leb, ltb, eqb}
-use borrow.Author.Tests.{leb-true, ltb-true, eq-eqb, ne_eqb}
+use lib.Dec.{leb, ltb}
+use borrow.Author.Tests.{leb-true, ltb-true}
 use Rattle.model.specs.Answer.{pick, or_else, at, row, those}
-use Rattle.model.specs.Tables.{parent_of, climbs, descends, Field, is_static_field}
+use Rattle.model.specs.Tables.{parent_of, Field, is_static_field}
 use Rattle.model.specs.Loading.{Loading, follows, parent_fits, class_record}
 use Rattle.loaded.specs.declared.Counts.{Counts}
 use Rattle.loaded.specs.declared.Loaded.{Loaded}
@@ -31,39 +30,6 @@ use Rattle.loader.proofs.Ladder.{goes_guard, goes_ok, parent_less}
 pub parent_at : {ps parents : List ℕ} → Column 33 ps parents → (c : ℕ) → get_or parents c 0 ≡ parent_of ps c
 unfolding parent_of
 parent_at C c = C.each c
-
--- ---- The ancestor test
-
-module _ (ps : List ℕ) (falls : Falls ps) (d : ℕ) where
-  enough : (k j c : ℕ) → c ≤ k → c ≤ j → climbs ps k c d ≡ climbs ps j c d
-  unfolding climbs Falls
-  enough zero zero c hk hj = refl
-  enough zero (suc j) zero hk hj = refl
-  enough zero (suc j) (suc c) hk hj = absurd (omega arith)
-  enough (suc k) zero zero hk hj = refl
-  enough (suc k) zero (suc c) hk hj = absurd (omega arith)
-  enough (suc k) (suc j) zero hk hj = refl
-  enough (suc k) (suc j) (suc c) hk hj =
-      let l : parent_of ps (suc c) < suc c = falls (suc c) (omega arith) in
-      ap (λ (b : Bool). eqb (suc c) d || b) (enough k j (parent_of ps (suc c)) (omega arith) (omega arith))
-
-  -- one step up
-  pub up : (c : ℕ) → (c ≡ 0 → ⊥) → (c ≡ d → ⊥) → descends ps (parent_of ps c) d ≡ descends ps c d
-  unfolding descends climbs Falls
-  up zero nz nd = absurd (nz refl)
-  up (suc c) nz nd =
-      let l : parent_of ps (suc c) < suc c = falls (suc c) (omega arith) in
-      enough (parent_of ps (suc c)) c (parent_of ps (suc c)) (omega arith) (omega arith)
-      ∙ ap (λ (b : Bool). b || climbs ps c (parent_of ps (suc c)) d) (sym (ne_eqb (suc c) d nd))
-
-pub top : (ps : List ℕ) (c d : ℕ) → c ≡ 0 → false ≡ descends ps c d
-unfolding descends climbs
-top ps c d e = ap (λ (k : ℕ). climbs ps k k d) (sym e)
-
-pub found : (ps : List ℕ) (c d : ℕ) → (c ≡ 0 → ⊥) → c ≡ d → true ≡ descends ps c d
-unfolding descends climbs
-found ps zero d nz e = absurd (nz refl)
-found ps (suc c) d nz e = ap (λ (b : Bool). b || climbs ps c (parent_of ps (suc c)) d) (sym (eq-eqb (suc c) d e))
 
 -- ---- A class's record
 

@@ -1,23 +1,22 @@
--- One step up, from a row to its parent's, as the arrays show it; and small facts of the code's own steps.
+-- Fields with those inherited, one class up at a time; and small facts of the code's own steps.
 use mathlib.Core.Path.{◌≡◌, refl, sym, ap, ◌∙◌, subst}
 use Prim.Native.Nat.{ℕ, zero, suc, ◌+◌, ◌*◌, ◌≤◌, ◌<◌}
 use mathlib.Core.Bool.{Bool, true, false, not}
-use mathlib.Core.Option.{Option}
 use mathlib.Core.List.{List, [], ◌∷◌}
 use native.Mathlib.Omega.{arith}
 use lib.ListN.{length, get_or, drop, get_or-eq_default}
 use lib.Seq.{get_or-drop, drop-drop}
-use Rattle.model.specs.Answer.{or_else, those, keep_if}
-use Rattle.model.specs.Tables.{parent_of, descends, Field, Method, is_own, layout_up, layout, is_static_field}
+use Rattle.model.specs.Answer.{those, keep_if}
+use Rattle.model.specs.Tables.{parent_of, Field, Method, is_own, layout_up, layout, is_static_field}
 use Rattle.model.specs.Loading.{Loading, little}
 use Rattle.loaded.specs.declared.Loaded.{Loaded}
 use Rattle.loader.specs.declared.notes.Notes.{Notes}
 use Rattle.loader.specs.declared.method.Body.{Body}
 use Rattle.loader.specs.Body.{body_of}
 use Rattle.loader.specs.Stands.{ClassRows, FieldRows, Sound, MethodCells, Stands, counts_of, Fine, Small, Earlier}
-use Rattle.ancestor.specs.Parents.{Falls, Parents}
-use Rattle.loader.proofs.Rows.{row_past}
-use Rattle.loader.proofs.Classes.{parent_at, up, top}
+use Rattle.ancestor.specs.Parents.{Parents}
+use Rattle.ancestor.proofs.Climb.{beyond}
+use Rattle.loader.proofs.Classes.{parent_at}
 use Rattle.loader.proofs.Fields.{layout_up_lem}
 use Rattle.loader.proofs.Methods.{overrides_below}
 use Rattle.loader.proofs.Rules.{override_at}
@@ -33,22 +32,6 @@ not_not false = refl
 
 pub parents_of : {ps parents : List ℕ} → ClassRows ps parents → Parents ps parents
 parents_of C = record { parent = parent_at C.parent; falls = C.falls; few = C.few }
-
-pub beyond : (ps : List ℕ) (c : ℕ) → length ps < c → parent_of ps c ≡ 0
-unfolding parent_of or_else
-beyond ps c h = ap (λ (o : Option ℕ). or_else o 0) (row_past ps c h)
-
-module _ {ps parents : List ℕ} (P : Parents ps parents) (c : ℕ) (nz : c ≡ 0 → ⊥) where
-  -- a parent is no row at or below its child's
-  pub steep : {X : Type 0} (w : ℕ) → w ≡ get_or parents c 0 → c ≤ w → X
-  unfolding Falls
-  steep w e h = let q : w ≡ parent_of ps c = e ∙ P.parent c in let l = P.falls c (omega arith) in absurd (omega arith)
-
-  pub far : (d : ℕ) → 32 < c → (c ≡ d → ⊥) → false ≡ descends ps c d
-  far d h nd = top ps (parent_of ps c) d (beyond ps c (let q = P.few in omega arith)) ∙ up ps P.falls d c nz nd
-
-  pub climb : (d w : ℕ) → w ≡ get_or parents c 0 → (c ≡ d → ⊥) → descends ps w d ≡ descends ps c d
-  climb d w e nd = ap (λ (k : ℕ). descends ps k d) (e ∙ P.parent c) ∙ up ps P.falls d c nz nd
 
 -- ---- Fields with those inherited
 

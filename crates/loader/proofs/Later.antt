@@ -12,22 +12,26 @@ use borrow.Author.Tests.{ltb-true, eqb-true, eqb-false, eq-eqb, ne_eqb}
 use Rattle.model.specs.Answer.{pick, is_none, at, on_last}
 use Rattle.model.specs.Tables.{Ty, byte_of, Sort, initialiser, sort_byte, is_sort, Method, part_of, method_at, arguments, type_at}
 use Rattle.model.specs.Loading.{Loading, follows, within, latest, with_param, with_local, on_latest, param_record, local_record, entry_record}
-use Rattle.std.specs.Prelude.{Some, Ok}
+use Rattle.std.specs.Prelude.{Some, Ok, Err}
 use Rattle.loaded.specs.declared.Counts.{Counts}
 use Rattle.loaded.specs.declared.Loaded.{Loaded}
 use Rattle.loader.specs.declared.notes.Notes.{Notes}
 use Rattle.loaded.specs.Holds.{byte_at}
 use Rattle.loader.specs.declared.kind.Kind.{Kind}
-use Rattle.loader.specs.declared.kind.Kind.TheVariants.{Parameter, Local, Entry}
+use Rattle.loader.specs.declared.kind.Kind.TheVariants.{Parameter as ParameterKind, Local as LocalKind, Entry}
+use Rattle.loader.specs.declared.variable.Variable.{Variable}
+use Rattle.loader.specs.declared.variable.Variable.TheVariants.{Parameter, Local}
+use Rattle.loader.specs.declared.refusal.Refusal.{Refusal}
+use Rattle.loader.specs.Variables.{kind_of, count_of, column_of, most_of, variable_record}
 use Rattle.loader.specs.Kinds.{kind_byte, last_byte}
 use Rattle.loader.specs.Goes.{Goes}
 use Rattle.loader.specs.Rules.{EntryRule}
-use Rattle.loader.specs.Allowed.{is_type, param_allowed, local_allowed, entry_allowed}
+use Rattle.loader.specs.Allowed.{is_type, variable_allowed, entry_allowed}
 use Rattle.loader.specs.Stands.{Cell, put, stored, method_column, root_at, method_cell, part_cell, MethodCells, Sound, MethodRows, Stands, counts_of}
 use Rattle.loader.proofs.Rows.{length_last, grown}
 use Rattle.loader.proofs.Grid.{after, Below, grid_as, grid_row}
 use Rattle.loader.proofs.Methods.{method_last, method_kept, unchanged, latest_at, root_kept, initialisers_last, columns, argument_column, local_column, byte_there, byte_here, arguments_param, arguments_more}
-use Rattle.loader.proofs.Open.{accept}
+use Rattle.loader.proofs.Open.{refuse, accept}
 use Rattle.loader.proofs.Ladder.{goes_guard, goes_need, goes_test, goes_ok, within_true, type_byte}
 
 -- ---- A change of the last method's parameters or locals
@@ -91,13 +95,9 @@ param_rest : (u : Ty) (m : Method) → rest_of (with_param u m) ≡ rest_of m
 unfolding rest_of with_param
 param_rest u m = refl
 
--- how many arguments, and the type of the last
-abbrev pub param_cells : ℕ → ℕ → List Cell
-param_cells n t = put 28 (n + 1) ∷ put n t ∷ []
-
--- how many locals, and the type of the last
-abbrev pub local_cells : ℕ → ℕ → List Cell
-local_cells n t = put 29 (n + 1) ∷ put (8 + n) t ∷ []
+-- how many there are, and the type of the last
+abbrev pub variable_cells : Variable → ℕ → ℕ → List Cell
+variable_cells v n t = put (count_of v) (n + 1) ∷ put (column_of v n) t ∷ []
 
 -- a list of types that grows by one, a cell at a time
 grown_byte : (l : List Ty) (u : Ty) (k : ℕ) → pick (eqb k (length l)) (byte_of u) (byte_at (at l k)) ≡ byte_at (at (l ++ (u ∷ [])) k)
@@ -109,7 +109,7 @@ grown_byte l u k = go (eqb k (length l)) refl
     go false e = sym (byte_there l u k (eqb-false k (length l) e))
 
 module _ (q : ℕ) (u : Ty) (m : Method) where
-  param_column : length (arguments m) < 8 → (k : ℕ) → k < 32 → after (param_cells (length (arguments m)) (byte_of u)) k (method_column q m k) ≡ method_column q (with_param u m) k
+  param_column : length (arguments m) < 8 → (k : ℕ) → k < 32 → after (variable_cells Parameter (length (arguments m)) (byte_of u)) k (method_column q m k) ≡ method_column q (with_param u m) k
   unfolding after pick method_column with_param
   param_column room =
       columns (λ k. pick (eqb k (length (arguments m))) (byte_of u) (pick (eqb k 28) (length (arguments m) + 1) (method_column q m k)) ≡ method_column q (with_param u m) k)
@@ -132,7 +132,7 @@ module _ (q : ℕ) (u : Ty) (m : Method) where
           far (8 + i) (omega arith)
           (ap (λ (b : Bool). pick b (length (arguments m) + 1) (method_column q m (8 + i))) (ne_eqb (8 + i) 28 (λ z. omega arith)) ∙ local_column q m i h ∙ sym (local_column q (with_param u m) i h))
 
-  local_changes : length m.locals < 16 → (k : ℕ) → k < 32 → after (local_cells (length m.locals) (byte_of u)) k (method_column q m k) ≡ method_column q (with_local u m) k
+  local_changes : length m.locals < 16 → (k : ℕ) → k < 32 → after (variable_cells Local (length m.locals) (byte_of u)) k (method_column q m k) ≡ method_column q (with_local u m) k
   unfolding after pick method_column with_local arguments
   local_changes room =
       columns (λ k. pick (eqb k (8 + length m.locals)) (byte_of u) (pick (eqb k 29) (length m.locals + 1) (method_column q m k)) ≡ method_column q (with_local u m) k)
@@ -173,12 +173,12 @@ unfolding with_local arguments
 local_arguments u m = refl
 
 module _ (code : List ℕ) (ms : List Method) (inits a parts : List ℕ) (R : MethodRows code ms inits a parts) (begun : 0 < length ms) (u : Ty) (t : ℕ) (typed : byte_of u ≡ t) where
-  pub param_rows : (n : ℕ) → n ≡ length (arguments (method_at ms (length ms))) → n < 8 → MethodRows code (on_last (with_param u) ms) inits (stored 32 (length ms) a (param_cells n t)) parts
+  pub param_rows : (n : ℕ) → n ≡ length (arguments (method_at ms (length ms))) → n < 8 → MethodRows code (on_last (with_param u) ms) inits (stored 32 (length ms) a (variable_cells Parameter n t)) parts
   unfolding Below
   param_rows n e room =
-      rows_last code ms inits a parts R (with_param u) (param_rest u) begun (param_cells n t) (omega arith, (omega arith, tt))
-      (subst (λ (i : ℕ). (k : ℕ) → k < 32 → after (param_cells i t) k (method_column (root_at ms (length ms)) (method_at ms (length ms)) k) ≡ method_column (root_at ms (length ms)) (with_param u (method_at ms (length ms))) k) (sym e)
-      (subst (λ (i : ℕ). (k : ℕ) → k < 32 → after (param_cells (length (arguments (method_at ms (length ms)))) i) k (method_column (root_at ms (length ms)) (method_at ms (length ms)) k) ≡ method_column (root_at ms (length ms)) (with_param u (method_at ms (length ms))) k) typed
+      rows_last code ms inits a parts R (with_param u) (param_rest u) begun (variable_cells Parameter n t) (omega arith, (omega arith, tt))
+      (subst (λ (i : ℕ). (k : ℕ) → k < 32 → after (variable_cells Parameter i t) k (method_column (root_at ms (length ms)) (method_at ms (length ms)) k) ≡ method_column (root_at ms (length ms)) (with_param u (method_at ms (length ms))) k) (sym e)
+      (subst (λ (i : ℕ). (k : ℕ) → k < 32 → after (variable_cells Parameter (length (arguments (method_at ms (length ms)))) i) k (method_column (root_at ms (length ms)) (method_at ms (length ms)) k) ≡ method_column (root_at ms (length ms)) (with_param u (method_at ms (length ms))) k) typed
       (param_column (root_at ms (length ms)) u (method_at ms (length ms)) (omega arith))))
       (λ r. few r (ℕ_discrete r (length ms)))
     where
@@ -189,12 +189,12 @@ module _ (code : List ℕ) (ms : List Method) (inits a parts : List ℕ) (R : Me
           omega arith
       few r (no w) = subst (λ (m : Method). length (arguments m) ≤ 8) (sym (method_kept (with_param u) ms r w)) (R.sound.narrow r)
 
-  pub local_rows : (n : ℕ) → n ≡ length (method_at ms (length ms)).locals → n < 16 → MethodRows code (on_last (with_local u) ms) inits (stored 32 (length ms) a (local_cells n t)) parts
+  pub local_rows : (n : ℕ) → n ≡ length (method_at ms (length ms)).locals → n < 16 → MethodRows code (on_last (with_local u) ms) inits (stored 32 (length ms) a (variable_cells Local n t)) parts
   unfolding Below
   local_rows n e room =
-      rows_last code ms inits a parts R (with_local u) (local_rest u) begun (local_cells n t) (omega arith, (omega arith, tt))
-      (subst (λ (i : ℕ). (k : ℕ) → k < 32 → after (local_cells i t) k (method_column (root_at ms (length ms)) (method_at ms (length ms)) k) ≡ method_column (root_at ms (length ms)) (with_local u (method_at ms (length ms))) k) (sym e)
-      (subst (λ (i : ℕ). (k : ℕ) → k < 32 → after (local_cells (length (method_at ms (length ms)).locals) i) k (method_column (root_at ms (length ms)) (method_at ms (length ms)) k) ≡ method_column (root_at ms (length ms)) (with_local u (method_at ms (length ms))) k) typed
+      rows_last code ms inits a parts R (with_local u) (local_rest u) begun (variable_cells Local n t) (omega arith, (omega arith, tt))
+      (subst (λ (i : ℕ). (k : ℕ) → k < 32 → after (variable_cells Local i t) k (method_column (root_at ms (length ms)) (method_at ms (length ms)) k) ≡ method_column (root_at ms (length ms)) (with_local u (method_at ms (length ms))) k) (sym e)
+      (subst (λ (i : ℕ). (k : ℕ) → k < 32 → after (variable_cells Local (length (method_at ms (length ms)).locals) i) k (method_column (root_at ms (length ms)) (method_at ms (length ms)) k) ≡ method_column (root_at ms (length ms)) (with_local u (method_at ms (length ms))) k) typed
       (local_changes (root_at ms (length ms)) u (method_at ms (length ms)) (omega arith))))
       (λ r. subst (λ (n : ℕ). n ≤ 8) (sym (unchanged (λ m. length (arguments m)) (with_local u) (local_arguments u) ms r)) (R.sound.narrow r))
 
@@ -224,15 +224,14 @@ rows_in N m = record { counts = N.counts; parents = N.parents; initialisers = N.
 abbrev pub noted : Notes → Kind → Notes
 noted S k = record { last = Some k; own = S.own; places = S.places }
 
-abbrev pub ParamTo : List ℕ → Loading → Loaded → Notes → ℕ → Counts → ℕ → Type 0
-ParamTo code L N S t n last =
-    Goes (param_record L t) (param_allowed last n.classes t (get_or N.methods (n.methods * 32 + 28) 0) (get_or N.methods (n.methods * 32 + 24) 0)) (λ K.
-    Stands code K (rows_in N (stored 32 n.methods N.methods (param_cells (get_or N.methods (n.methods * 32 + 28) 0) t))) (noted S Parameter))
+-- where the code's cell of the count is at a column
+abbrev pub count_at : Loaded → ℕ → ℕ → ℕ
+count_at N n column = get_or N.methods (n * 32 + column) 0
 
-abbrev pub LocalTo : List ℕ → Loading → Loaded → Notes → ℕ → Counts → ℕ → Type 0
-LocalTo code L N S t n last =
-    Goes (local_record L t) (local_allowed last n.classes t (get_or N.methods (n.methods * 32 + 29) 0)) (λ K.
-    Stands code K (rows_in N (stored 32 n.methods N.methods (local_cells (get_or N.methods (n.methods * 32 + 29) 0) t))) (noted S Local))
+abbrev pub VariableTo : List ℕ → Loading → Loaded → Notes → Variable → ℕ → Counts → ℕ → Type 0
+VariableTo code L N S v t n last =
+    Goes (variable_record v L t) (variable_allowed v last n.classes t (count_at N n.methods (count_of v)) (count_at N n.methods 24)) (λ K.
+    Stands code K (rows_in N (stored 32 n.methods N.methods (variable_cells v (count_at N n.methods (count_of v)) t))) (noted S (kind_of v)))
 
 module _ (code : List ℕ) (L : Loading) (N : Loaded) (S : Notes) (Z : Stands code L N S) where
   later : (k : Kind) (f : Method → Method) (b : List ℕ) → 3 ≤ L.last → L.last ≤ 5 → 3 ≤ kind_byte k → MethodRows code (on_last f L.methods) N.initialisers b N.parts → Stands code (on_latest (kind_byte k) f L) (rows_in N b) (noted S k)
@@ -249,11 +248,11 @@ module _ (code : List ℕ) (L : Loading) (N : Loaded) (S : Notes) (Z : Stands co
     begun = λ p q. subst (λ (n : ℕ). 0 < n) (sym (length_last f L.methods)) (Z.begun lo hi);
   }
 
-  pub param_goes : (t : ℕ) → ParamTo code L N S t N.counts (last_byte S.last)
-  unfolding param_record param_allowed counts_of is_type follows pick
+  param_goes : (t : ℕ) → VariableTo code L N S Parameter t N.counts (last_byte S.last)
+  unfolding param_record variable_allowed counts_of is_type follows pick
   param_goes t =
-      subst (λ (n : Counts). ParamTo code L N S t n (last_byte S.last)) (sym Z.counted)
-      (subst (ParamTo code L N S t (counts_of L)) (sym Z.last)
+      subst (λ (n : Counts). VariableTo code L N S Parameter t n (last_byte S.last)) (sym Z.counted)
+      (subst (VariableTo code L N S Parameter t (counts_of L)) (sym Z.last)
       (goes_guard (within 3 4 L.last) 3 _ _ _ _ refl (omega arith) (omega arith) λ x.
       goes_need (type_at (length L.parents) t) 4 _ _ _ _ refl (omega arith) (omega arith) λ u b.
       goes_test _ _ 5 _ _ _ _ refl (omega arith) (omega arith) (ap (λ (n : ℕ). ltb n 8) (latest_count L Z.methods.cell)) λ c.
@@ -262,15 +261,15 @@ module _ (code : List ℕ) (L : Loading) (N : Loaded) (S : Notes) (Z : Stands co
       let w = within_true 3 4 L.last x in
       let few : length (arguments (latest L)) < 8 = ltb-true (length (arguments (latest L))) 8 c in
       let n = latest_count L Z.methods.cell in
-      later Parameter (with_param u) _ w.0 (omega (arith, w.1)) (omega arith)
+      later ParameterKind (with_param u) _ w.0 (omega (arith, w.1)) (omega arith)
       (param_rows code L.methods N.initialisers N.methods N.parts Z.methods (Z.begun w.0 (omega (arith, w.1))) u t (type_byte (length L.parents) t u b) _
       (n ∙ ap (λ (m : Method). length (arguments m)) (latest_is L)) (omega arith)))))
 
-  pub local_goes : (t : ℕ) → LocalTo code L N S t N.counts (last_byte S.last)
-  unfolding local_record local_allowed counts_of is_type follows pick
+  local_goes : (t : ℕ) → VariableTo code L N S Local t N.counts (last_byte S.last)
+  unfolding local_record variable_allowed counts_of is_type follows pick
   local_goes t =
-      subst (λ (n : Counts). LocalTo code L N S t n (last_byte S.last)) (sym Z.counted)
-      (subst (LocalTo code L N S t (counts_of L)) (sym Z.last)
+      subst (λ (n : Counts). VariableTo code L N S Local t n (last_byte S.last)) (sym Z.counted)
+      (subst (VariableTo code L N S Local t (counts_of L)) (sym Z.last)
       (goes_guard (within 3 5 L.last) 3 _ _ _ _ refl (omega arith) (omega arith) λ x.
       goes_need (type_at (length L.parents) t) 4 _ _ _ _ refl (omega arith) (omega arith) λ u b.
       goes_test _ _ 5 _ _ _ _ refl (omega arith) (omega arith) (ap (λ (n : ℕ). ltb n 16) (latest_locals L Z.methods.cell)) λ c.
@@ -278,24 +277,38 @@ module _ (code : List ℕ) (L : Loading) (N : Loaded) (S : Notes) (Z : Stands co
       let w = within_true 3 5 L.last x in
       let few : length (latest L).locals < 16 = ltb-true (length (latest L).locals) 16 c in
       let n = latest_locals L Z.methods.cell in
-      later Local (with_local u) _ w.0 w.1 (omega arith)
+      later LocalKind (with_local u) _ w.0 w.1 (omega arith)
       (local_rows code L.methods N.initialisers N.methods N.parts Z.methods (Z.begun w.0 w.1) u t (type_byte (length L.parents) t u b) _
       (n ∙ ap (λ (m : Method). length m.locals) (latest_is L)) (omega arith)))))
 
-  -- with the values as the code has them
-  pub param_taken : (t : ℕ) → Ok tt ≡ param_allowed (last_byte S.last) N.counts.classes t (get_or N.methods (N.counts.methods * 32 + 28) 0) (get_or N.methods (N.counts.methods * 32 + 24) 0) → (w : ℕ) → w ≡ get_or N.methods (N.counts.methods * 32 + 28) 0
-      → Goes (param_record L t) (Ok tt) (λ K. Stands code K (rows_in N (set (set N.methods (N.counts.methods * 32 + 28) (get_or N.methods (N.counts.methods * 32 + 28) 0 + 1)) (N.counts.methods * 32 + w) t)) (noted S Parameter))
-  unfolding stored
-  param_taken t q w ew =
-      subst (λ (i : ℕ). Goes (param_record L t) (Ok tt) (λ K. Stands code K (rows_in N (set (set N.methods (N.counts.methods * 32 + 28) (get_or N.methods (N.counts.methods * 32 + 28) 0 + 1)) (N.counts.methods * 32 + i) t)) (noted S Parameter))) (sym ew)
-      (accept _ _ _ q (param_goes t))
+  pub variable_goes : (v : Variable) (t : ℕ) → VariableTo code L N S v t N.counts (last_byte S.last)
+  variable_goes Parameter = param_goes
+  variable_goes Local = local_goes
 
-  pub local_taken : (t : ℕ) → Ok tt ≡ local_allowed (last_byte S.last) N.counts.classes t (get_or N.methods (N.counts.methods * 32 + 29) 0) → (w : ℕ) → w ≡ get_or N.methods (N.counts.methods * 32 + 29) 0
-      → Goes (local_record L t) (Ok tt) (λ K. Stands code K (rows_in N (set (set N.methods (N.counts.methods * 32 + 29) (get_or N.methods (N.counts.methods * 32 + 29) 0 + 1)) (N.counts.methods * 32 + (8 + w)) t)) (noted S Local))
+  -- with the columns and the kind as the code has them
+  abbrev Made : Variable → ℕ → ℕ → ℕ → Kind → Type 0
+  Made v t i j k =
+      Ok tt ≡ variable_allowed v (last_byte S.last) N.counts.classes t (count_at N N.counts.methods i) (count_at N N.counts.methods 24)
+      → Goes (variable_record v L t) (Ok tt) (λ K. Stands code K
+      (rows_in N (set (set N.methods (N.counts.methods * 32 + i) (count_at N N.counts.methods i + 1)) (N.counts.methods * 32 + j) t)) (noted S k))
+
+  pub variable_taken : (v : Variable) (t i j : ℕ) (k : Kind) → i ≡ count_of v → j ≡ column_of v (count_at N N.counts.methods i) → k ≡ kind_of v → Made v t i j k
   unfolding stored
-  local_taken t q w ew =
-      subst (λ (i : ℕ). Goes (local_record L t) (Ok tt) (λ K. Stands code K (rows_in N (set (set N.methods (N.counts.methods * 32 + 29) (get_or N.methods (N.counts.methods * 32 + 29) 0 + 1)) (N.counts.methods * 32 + (8 + i)) t)) (noted S Local))) (sym ew)
-      (accept _ _ _ q (local_goes t))
+  variable_taken v t i j k ei ej ek =
+      subst (λ (i : ℕ). Made v t i j k) (sym ei)
+      (subst (λ (j : ℕ). Made v t (count_of v) j k) (sym (ej ∙ ap (λ (i : ℕ). column_of v (count_at N N.counts.methods i)) ei))
+      (subst (Made v t (count_of v) (column_of v (count_at N N.counts.methods (count_of v)))) (sym ek)
+      (λ q. accept _ _ _ q (variable_goes v t))))
+
+  pub variable_refused : (v : Variable) (t i : ℕ) (e : Refusal) (P : Loading → Type 0) → i ≡ count_of v
+      → Err e ≡ variable_allowed v (last_byte S.last) N.counts.classes t (count_at N N.counts.methods i) (count_at N N.counts.methods 24) → Goes (variable_record v L t) (Err e) P
+  variable_refused v t i e P ei q =
+      refuse _ _ _ _ _ (q ∙ ap (λ (i : ℕ). variable_allowed v (last_byte S.last) N.counts.classes t (count_at N N.counts.methods i) (count_at N N.counts.methods 24)) ei) (variable_goes v t)
+
+-- a row has room for one more
+pub room : (v : Variable) (n : ℕ) → n < most_of v → (n < 16) × (column_of v n < 24)
+room Parameter n h = (omega arith, omega arith)
+room Local n h = (omega arith, omega arith)
 
 -- the module after the entry
 abbrev pub entry_in : Loaded → Counts → ℕ → Loaded

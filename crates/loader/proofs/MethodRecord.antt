@@ -293,15 +293,15 @@ module _ (code : List ℕ) (L : Loading) (N : Loaded) (S : Notes) (Z : Stands co
   -- with the values and rows as the code has them
   pub method_taken : (over fits : Bool) → OverrideRule L b.owner b.sort b.overridden over → SortRule L b.owner b.sort b.returns fits
       → (size : ℕ) → size ≡ length code → Ok tt ≡ allowed (last_byte S.last) N.counts b size over fits
-      → (this count q : ℕ) → this ≡ this_byte b.sort b.owner → count ≡ one_if this → q ≡ root_in N.methods (N.counts.methods + 1) b.overridden
-      → (i m p : List ℕ) → i ≡ marked N.initialisers b.sort b.owner (N.counts.methods + 1) → m ≡ stored 32 (N.counts.methods + 1) N.methods (method_cells b count this q) → p ≡ stored 2 (N.counts.methods + 1) N.parts (part_cells b.offset b.size)
+      → (this q : ℕ) → this ≡ this_byte b.sort b.owner → q ≡ root_in N.methods (N.counts.methods + 1) b.overridden
+      → (i m p : List ℕ) → i ≡ marked N.initialisers b.sort b.owner (N.counts.methods + 1) → m ≡ stored 32 (N.counts.methods + 1) N.methods (method_cells b (one_if this) this q) → p ≡ stored 2 (N.counts.methods + 1) N.parts (part_cells b.offset b.size)
       → Goes (record_of code L place b) (Ok tt) (λ K. Stands code K (method_in N N.counts i m p) (method_noted S place N.counts.methods))
-  method_taken over fits rule sorts size es z this count q et ec eq i m p ei em ep =
+  method_taken over fits rule sorts size es z this q et eq i m p ei em ep =
       subst (λ (x : Loaded). Goes (record_of code L place b) (Ok tt) (λ K. Stands code K x (method_noted S place N.counts.methods))) (sym same)
       (accept _ _ _ z (method_goes over fits rule sorts size es))
     where
-      cells : stored 32 (N.counts.methods + 1) N.methods (method_cells b count this q) ≡ stored 32 (N.counts.methods + 1) N.methods (method_cells b (one_if (this_byte b.sort b.owner)) (this_byte b.sort b.owner) (root_in N.methods (N.counts.methods + 1) b.overridden))
-      cells = λ x. stored 32 (N.counts.methods + 1) N.methods (method_cells b ((ec ∙ ap one_if et) x) (et x) (eq x))
+      cells : stored 32 (N.counts.methods + 1) N.methods (method_cells b (one_if this) this q) ≡ stored 32 (N.counts.methods + 1) N.methods (method_cells b (one_if (this_byte b.sort b.owner)) (this_byte b.sort b.owner) (root_in N.methods (N.counts.methods + 1) b.overridden))
+      cells = λ x. stored 32 (N.counts.methods + 1) N.methods (method_cells b (one_if (et x)) (et x) (eq x))
 
       same : method_in N N.counts i m p ≡ filled N b N.counts
       same = λ x. method_in N N.counts (ei x) ((em ∙ cells) x) (ep x)

@@ -9,8 +9,11 @@ use Rattle.model.specs.Answer.{Answer, pick}
 use Rattle.model.specs.Loading.{follows, within, parent_fits}
 use Rattle.std.specs.Prelude.{Result, Ok, Err, ⊤}
 use Rattle.loader.specs.declared.refusal.Refusal.{Refusal}
+use Rattle.loader.specs.declared.variable.Variable.{Variable}
+use Rattle.loader.specs.Kinds.{kind_byte}
+use Rattle.loader.specs.Variables.{kind_of, most_of}
 use Rattle.loader.specs.Goes.{Goes}
-use Rattle.loader.specs.Allowed.{is_type, is_return, slot_room, class_allowed, field_allowed, method_allowed, param_allowed, local_allowed}
+use Rattle.loader.specs.Allowed.{is_type, is_return, slot_room, class_allowed, field_allowed, method_allowed, variable_allowed}
 use Rattle.loader.proofs.Ladder.{goes_bad, both_true, within_true}
 
 -- ---- The code's answer beside the model's record
@@ -70,18 +73,10 @@ method_open last classes methods o s r most part over fits e =
     let i = passed (over && fits) _ _ h.1 in
     ((within_true 1 classes o b.0).1, ltb-true methods 128 h.0, (both_true over fits i.0).0)
 
-pub param_open : (last classes t count sort : ℕ) → Ok tt ≡ param_allowed last classes t count sort → count < 8
-unfolding param_allowed
-param_open last classes t count sort e =
-    let a = passed (follows last 4) _ _ e in
+pub variable_open : (v : Variable) (last classes t count sort : ℕ) → Ok tt ≡ variable_allowed v last classes t count sort → count < most_of v
+unfolding variable_allowed
+variable_open v last classes t count sort e =
+    let a = passed (follows last (kind_byte (kind_of v))) _ _ e in
     let b = passed (is_type classes t) _ _ a.1 in
-    let c = passed (ltb count 8) _ _ b.1 in
-    ltb-true count 8 c.0
-
-pub local_open : (last classes t count : ℕ) → Ok tt ≡ local_allowed last classes t count → count < 16
-unfolding local_allowed
-local_open last classes t count e =
-    let a = passed (follows last 5) _ _ e in
-    let b = passed (is_type classes t) _ _ a.1 in
-    let c = passed (ltb count 16) _ _ b.1 in
-    ltb-true count 16 c.0
+    let c = passed (ltb count (most_of v)) _ _ b.1 in
+    ltb-true count (most_of v) c.0

@@ -18,7 +18,7 @@ use Rattle.model.specs.Answer.{pick, or_else, at, row, first_row}
 use Rattle.model.specs.Tables.{Ty, byte_of, eq_ty, eq_tys, Method, no_method, method_at}
 use Rattle.model.specs.Loading.{is_integer, all}
 use Rattle.loaded.specs.Holds.{byte_at}
-use Rattle.loader.proofs.Rows.{drop_at, at_past}
+use Rattle.loader.proofs.Rows.{drop_at}
 use Rattle.loader.proofs.Ladder.{both_true}
 
 -- ---- The first row that passes a test
@@ -111,11 +111,6 @@ all_cells xs false d l e h = go (all is_integer l) refl
 pub all_part : (xs : List ℕ) (i a : ℕ) (b : Bool) → (IsTrue b ↔ EachIndex (take a (drop i xs)) (λ k. (0 < get_or (take a (drop i xs)) k 0) × (get_or (take a (drop i xs)) k 0 ≤ 2))) → (l : List Ty) → a ≡ length l → i + length l ≤ length xs
     → ((k : ℕ) → k < length l → get_or xs (i + k) 0 ≡ byte_at (at l k)) → b ≡ all is_integer l
 all_part xs i a b d l ea hi h = all_cells (take a (drop i xs)) b d l (length-take-le a (drop i xs) (simp length-drop (omega arith)) ∙ ea) (λ k q. get_or-take a (drop i xs) k 0 (omega arith) ∙ get_or-drop i xs k 0 ∙ h k q)
-
--- past a list there is no cell
-byte_past : (l : List Ty) (k : ℕ) → length l ≤ k → byte_at (at l k) ≡ 0
-unfolding byte_at
-byte_past l k h = ap byte_at (at_past l k h)
 
 -- two lists of one length beside their cells, which are 0 behind them
 cells_same : (xs : List ℕ) (n i j : ℕ) → i + n ≤ length xs → j + n ≤ length xs → (l m : List Ty) → length l ≡ length m → length l ≤ n

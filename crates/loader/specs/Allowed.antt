@@ -1,9 +1,12 @@
 -- What each record is refused with, by its tests in their order: the first that fails.
 use Rattle.std.specs.Prelude.{ℕ, ◌+◌, Bool, not, ◌&&◌, leb, ltb, eqb, Result, Ok, Err, ⊤}
 use Rattle.model.specs.Answer.{pick, is_none}
-use Rattle.model.specs.Tables.{most_classes, most_fields, most_statics, most_methods, most_instance, most_arguments, most_locals, most_stack, most_length, type_at}
+use Rattle.model.specs.Tables.{most_classes, most_fields, most_statics, most_methods, most_instance, most_stack, most_length, type_at}
 use Rattle.loader.specs.declared.refusal.Refusal.{Refusal}
 use Rattle.loader.specs.declared.refusal.Refusal.TheVariants.{Order, Range, TooMany, Rule}
+use Rattle.loader.specs.declared.variable.Variable.{Variable}
+use Rattle.loader.specs.Kinds.{kind_byte}
+use Rattle.loader.specs.Variables.{kind_of, most_of, barred}
 use Rattle.model.specs.Loading.{follows, within, parent_fits, return_at}
 
 unfoldable pub is_type : ℕ → ℕ → Bool
@@ -42,13 +45,11 @@ method_allowed last classes methods o sort returns stack part over fits =
     (Err Range))
     (Err Order)
 
-unfoldable pub param_allowed : ℕ → ℕ → ℕ → ℕ → ℕ → Result ⊤ Refusal
-param_allowed last classes t count sort =
-    pick (follows last 4) (pick (is_type classes t) (pick (ltb count most_arguments) (pick (not (eqb sort 4)) (Ok tt) (Err Rule)) (Err TooMany)) (Err Range)) (Err Order)
-
-unfoldable pub local_allowed : ℕ → ℕ → ℕ → ℕ → Result ⊤ Refusal
-local_allowed last classes t count =
-    pick (follows last 5) (pick (is_type classes t) (pick (ltb count most_locals) (Ok tt) (Err TooMany)) (Err Range)) (Err Order)
+unfoldable pub variable_allowed : Variable → ℕ → ℕ → ℕ → ℕ → ℕ → Result ⊤ Refusal
+variable_allowed v last classes t count sort =
+    pick (follows last (kind_byte (kind_of v)))
+    (pick (is_type classes t) (pick (ltb count (most_of v)) (pick (not (barred v sort)) (Ok tt) (Err Rule)) (Err TooMany)) (Err Range))
+    (Err Order)
 
 unfoldable pub entry_allowed : ℕ → ℕ → ℕ → Bool → Result ⊤ Refusal
 entry_allowed last methods r fits = pick (follows last 6) (pick (within 1 methods r) (pick fits (Ok tt) (Err Rule)) (Err Range)) (Err Order)

@@ -1,6 +1,7 @@
 pub mod Answers
 pub mod Refusals
 pub mod Kinds
+pub mod Variables
 pub mod Allowed
 pub mod Stands
 pub mod Goes

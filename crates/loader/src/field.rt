@@ -17,8 +17,9 @@ use loaded::{Counts, Loaded};
 
 // How many instance fields a class has with those inherited; `own` has each class's own.
 fn held(parents: &[u8; 33], own: &[u8; 33], c: usize) -> usize
-    ensures { (result ≤ 255 * c) × (((ps : List ℕ) (fs : List Field) (fields : List ℕ) → ClassRows ps parents.now
-        → FieldRows ps fs own.now fields → result ≡ length (layout ps fs c))) }
+    ensures result_at_most { result ≤ 255 * c }
+    ensures as_model { (ps : List ℕ) (fs : List Field) (fields : List ℕ) → ClassRows ps parents.now
+        → FieldRows ps fs own.now fields → result ≡ length (layout ps fs c) }
 {
     if c == 0 {
         return 0;

@@ -10,8 +10,7 @@ mod class; // a class record
 mod field; // a field record
 mod overriding; // the rule on an overridden row, and roots
 mod method; // a method record
-mod parameter; // a parameter record
-mod local; // a local record
+mod variable; // a parameter or a local record
 mod entry; // the entry record
 mod records; // the record of each kind, and all of them
 mod after_last; // overrides, after the last record

@@ -15,12 +15,10 @@ use crate::overriding::{override_fits, root_of};
 use crate::ranges::{is_row, type_fits};
 use crate::refusal::Refusal;
 use loaded::columns::{
-    ARGUMENT_COUNT, LENGTH, MAX_STACK, METHOD, OFFSET, OVERRIDDEN, OWNER, PART, RETURN, ROOT, SORT,
+    ARGUMENT_COUNT, ARGUMENTS, LENGTH, MAX_STACK, METHOD, OFFSET, OVERRIDDEN, OWNER, PART, RETURN,
+    ROOT, SORT,
 };
 use loaded::{Counts, Loaded};
-
-// The type of `this` is argument 0's.
-const THIS: usize = 0;
 
 // A method's record: its body, the code part's offset and length as whole numbers.
 #[derive(Clone, Copy)]
@@ -144,30 +142,20 @@ fn method_allowed(
 }
 
 // 32 and the class's row for the sorts with `this`, else 0.
+#[tactic(auto, unfolding(crate::specs::Stands::this_byte, model::specs::Answer::pick))]
 fn this_byte(sort: u8, owner: u8) -> u8
     requires { owner ≤ 32 }
     ensures { result ≡ this_byte sort owner }
 {
-    if sort == numbers::STATIC {
-        return 0;
+    match sort {
+        numbers::STATIC | numbers::INITIALISER => 0,
+        _ => numbers::OBJECT + owner,
     }
-    if sort == numbers::INITIALISER {
-        return 0;
-    }
-    numbers::OBJECT + owner
-}
-
-fn one_if(this: u8) -> u8
-    ensures { result ≡ one_if this }
-{
-    if this == 0 {
-        return 0;
-    }
-    1
 }
 
 fn mark_initialiser(initialisers: &mut [u8; 33], row: usize, sort: u8, owner: u8)
-    requires { (row ≤ 128) × (owner ≤ 32) }
+    requires row_at_most { row ≤ 128 }
+    requires owner_at_most { owner ≤ 32 }
     ensures { initialisers.new ≡ marked initialisers.old sort owner row }
 {
     if sort == numbers::INITIALISER {
@@ -176,20 +164,20 @@ fn mark_initialiser(initialisers: &mut [u8; 33], row: usize, sort: u8, owner: u8
     }
 }
 
-// A method's row; it has no parameter or local yet.
-fn fill_row(methods: &mut [u8; 4128], row: usize, b: Body, count: u8, this: u8, root: u8)
+// A method's row; `this` is argument 0, and it has no parameter or local yet.
+fn fill_row(methods: &mut [u8; 4128], row: usize, b: Body, this: u8, root: u8)
     requires { row ≤ 128 }
-    ensures { methods.new ≡ stored 32 row methods.old (method_cells b count this root) }
+    ensures { methods.new ≡ stored 32 row methods.old (method_cells b (one_if this) this root) }
 {
     let base = row * METHOD;
     methods[base + SORT] = b.sort;
     methods[base + OWNER] = b.owner;
     methods[base + RETURN] = b.returns;
     methods[base + MAX_STACK] = b.stack;
-    methods[base + ARGUMENT_COUNT] = count;
+    methods[base + ARGUMENT_COUNT] = u8::from(this != 0);
     methods[base + ROOT] = root;
     methods[base + OVERRIDDEN] = b.overridden;
-    methods[base + THIS] = this;
+    methods[base + ARGUMENTS] = this;
 }
 
 // Where its code is.
@@ -220,9 +208,8 @@ pub fn method_record(
     method_allowed(notes.last, loaded.counts, b, code, over, fits)?;
     let row = n + 1;
     let this = this_byte(b.sort, b.owner);
-    let count = one_if(this);
     let root = root_of(&loaded.methods, row, b.overridden);
-    fill_row(&mut loaded.methods, row, b, count, this, root);
+    fill_row(&mut loaded.methods, row, b, this, root);
     fill_part(&mut loaded.parts, row, b.offset, b.size);
     notes.places[row] = place;
     mark_initialiser(&mut loaded.initialisers, row, b.sort, b.owner);

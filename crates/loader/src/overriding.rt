@@ -56,7 +56,8 @@ pub fn override_fits(b: Body, n: usize, parents: &[u8; 33], methods: &[u8; 4128]
 
 // A method's root is itself, or the root of what it overrides.
 pub fn root_of(methods: &[u8; 4128], row: usize, overridden: u8) -> u8
-    requires { (row ≤ 128) × (overridden ≤ 128) }
+    requires row_at_most { row ≤ 128 }
+    requires overridden_at_most { overridden ≤ 128 }
     ensures { result ≡ root_in methods.now row overridden }
 {
     if overridden == 0 {

@@ -12,11 +12,10 @@ use crate::class::class_record;
 use crate::entry::entry_record;
 use crate::field::field_record;
 use crate::kind::Kind;
-use crate::local::local_record;
 use crate::method::{method_record, read_body};
 use crate::notes::Notes;
-use crate::parameter::param_record;
 use crate::refusal::Refusal;
+use crate::variable::{Variable, variable_record};
 use loaded::{Fault, Loaded};
 
 // The record of a kind at an offset; its bytes are there.
@@ -40,8 +39,8 @@ fn one_record(
         Kind::Class => class_record(loaded, notes, first),
         Kind::Field => field_record(loaded, notes, first, tables[at + 2], tables[at + 3]),
         Kind::Method => method_record(loaded, notes, read_body(tables, at), at, code),
-        Kind::Parameter => param_record(loaded, notes, first),
-        Kind::Local => local_record(loaded, notes, first),
+        Kind::Parameter => variable_record(loaded, notes, Variable::Parameter, first),
+        Kind::Local => variable_record(loaded, notes, Variable::Local, first),
         Kind::Entry => entry_record(loaded, notes, first),
     }
 }

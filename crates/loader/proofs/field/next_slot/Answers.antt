@@ -12,4 +12,4 @@ returns-then-flag-eq1 c = λ code L S. simp (eq-eqb _ _ c.if-flag-eq1.true) (ap 
 
 pub returns : goal.returns
 unfolding pick
-returns c = λ code L S. simp (ne_eqb _ _ c.if-flag-eq1.false) (c.held.ensures.1 L.parents L.fields _ S.classes S.fields)
+returns c = λ code L S. simp (ne_eqb _ _ c.if-flag-eq1.false) (c.held.ensures.as_model L.parents L.fields _ S.classes S.fields)

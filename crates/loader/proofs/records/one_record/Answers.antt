@@ -24,10 +24,10 @@ pub returns-in-Field : goal.returns-in-Field
 returns-in-Field c = λ buffer L ec S. same_record _ _ (one_field buffer L c.args.tables.now c.args.at _ (ap kind_byte c.in-Field.is)) _ _ (c.field_record.ensures buffer L S)
 
 pub returns-in-Parameter : goal.returns-in-Parameter
-returns-in-Parameter c = λ buffer L ec S. same_record _ _ (one_param buffer L c.args.tables.now c.args.at _ (ap kind_byte c.in-Parameter.is)) _ _ (c.param_record.ensures buffer L S)
+returns-in-Parameter c = λ buffer L ec S. same_record _ _ (one_param buffer L c.args.tables.now c.args.at _ (ap kind_byte c.in-Parameter.is)) _ _ (c.variable_record.ensures buffer L S)
 
 pub returns-in-Local : goal.returns-in-Local
-returns-in-Local c = λ buffer L ec S. same_record _ _ (one_local buffer L c.args.tables.now c.args.at _ (ap kind_byte c.in-Local.is)) _ _ (c.local_record.ensures buffer L S)
+returns-in-Local c = λ buffer L ec S. same_record _ _ (one_local buffer L c.args.tables.now c.args.at _ (ap kind_byte c.in-Local.is)) _ _ (c.variable_record-in-Local.ensures buffer L S)
 
 pub returns-in-Entry : goal.returns-in-Entry
 returns-in-Entry c = λ buffer L ec S. same_record _ _ (one_entry buffer L c.args.tables.now c.args.at _ (ap kind_byte c.in-Entry.is)) _ _ (c.entry_record.ensures buffer L S)
