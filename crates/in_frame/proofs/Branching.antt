@@ -1,5 +1,5 @@
 -- The answers of the branches, by the tests that led to them, and what a branch does by its distance.
-use Rattle.std.proofs.Common.{◌≡◌, ℕ, suc, ◌+◌, ◌-◌, ◌*◌, ◌<◌, ◌≤◌, Bool, eqb, List, length, get_or, drop, sym, refl, ap, ◌∙◌, arith, le-ltb, lt-ltb, ne_eqb}
+use Rattle.std.proofs.Common.{◌≡◌, ℕ, suc, ◌+◌, ◌-◌, ◌<◌, ◌≤◌, Bool, eqb, List, length, get_or, drop, sym, refl, ap, ◌∙◌, arith, le-ltb, lt-ltb, ne_eqb}
 use mathlib.Core.Option.{Option, none, some}
 use Rattle.model.specs.Answer.{Answer, ok, ◌>>=◌, guard, need, pick, or_else, map_option}
 use Rattle.model.specs.Loading.{little}
@@ -57,10 +57,6 @@ module _ (y : Stay) (c : Work) (r : Relation) (target next : ℕ) where
     pub when_wrong : {o : ℕ} → none ≡ both_say → Meets 45 o c c (when_w y c r target next)
     unfolding need ◌>>=◌
     when_wrong q = stops refl refl (when_says ∙ rw (← q))
-
--- two int32 as one number
-pub two_narrow : (k l : ℕ) {p : ℕ} → k ≤ 3 → l ≤ 3 → p ≡ k + l * 256 → p ≡ 257 → (k ≡ 1) × (l ≡ 1)
-two_narrow k l x y q e = (omega arith, omega arith)
 
 module _ (len : ℕ) (y : Stay) (c : Work) (target next : ℕ) where
   pub branch_out : {o : ℕ} (j : Jump) → len ≤ target → Meets 42 o c c (branch_w len y c j (some target) next)

@@ -10,9 +10,8 @@ ghost use Rattle.state.specs.Steps.{Own, ComesTo};
 
 use crate::operands::led;
 use code::operands::{byte_after, four_after, whole};
-use operators::comparisons::{Holds, TWO_NARROW, both, related, related_bits};
-use state::ending::{Ending, ends};
-use state::{Stay, Step};
+use operators::comparisons::{both, related};
+use state::Stay;
 
 // The bits of a value: of an int32 the low 32.
 fn shown(kind: u8, bits: u64) -> u64
@@ -78,24 +77,10 @@ fn when(
     }
     let i = sp - 2;
     let j = sp - 1;
-    let k = kinds[i];
-    let l = kinds[j];
-    let pair = both(k, l);
-    if pair == TWO_NARROW {
-        if related_bits(relation, false, cells[i], cells[j]) {
-            return Step::On { at: target, sp: i };
-        }
-        return Step::On { at: next, sp: i };
-    }
-    let said = related(relation, pair, cells[i], cells[j]);
-    match said {
-        Holds::Says(b) => {
-            if b {
-                return Step::On { at: target, sp: i };
-            }
-            Step::On { at: next, sp: i }
-        }
-        Holds::Wrong => ends(Ending::WrongType),
+    match related(relation, both(kinds[i], kinds[j]), cells[i], cells[j]) {
+        Some(true) => on(target, i),
+        Some(false) => on(next, i),
+        None => ends(45, at, sp),
     }
 }
 

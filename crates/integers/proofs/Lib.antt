@@ -1,9 +1,6 @@
 pub mod Tests
-pub mod Residue
-pub mod Halves
 pub mod Reading
 pub mod Wrapping
+pub mod Checked
+pub mod Unsigned
 pub mod Shifts
-pub mod Divide
-pub mod Fitting
-pub mod Results

@@ -1,23 +1,25 @@
 -- Shifts by the bits of the amount that count.
-use Rattle.std.proofs.Common.{◌≡◌, ℕ, ◌*◌, ◌/◌, ◌%◌, ◌^◌, ◌<◌, Bool, true, false, ℤ, pos, sym, ap, ◌∙◌, arith, pow_pos, w32, w64, SFits, to_z, of_z}
+use Rattle.std.proofs.Common.{◌≡◌, ℕ, ◌*◌, ◌%◌, ◌^◌, ◌<◌, ℤ, pos, sym, ap, ◌∙◌, arith, w32, w64, SFits, to_z, of_z}
+use Rattle.std.proofs.lemmas.Nat.{mul-mod}
+use native.Mathlib.Nat.{mod-mod}
 use lib.Signed.{shr_z, mag_shr}
+use mir.Syntax.{Width}
 use mir.Val.{bits}
 use mir.Facts.{sfits_to_z}
-use mir.ValLaws.{sfits_le}
-use Rattle.model.specs.Code.{shl, shr, shr_un}
+use mir.ValLaws.{Fits-wrap, sfits_le}
+use Rattle.model.specs.Code.{shl, shr}
 use Rattle.model.specs.Operators.{shifted}
-use Rattle.integers.specs.Cells.{width_of, low}
-use Rattle.integers.proofs.Residue.{mul_mod_l}
-use Rattle.integers.proofs.Reading.{cell, number, cut, low_fits, read, write}
+use Rattle.integers.specs.Cells.{OfCell, low}
+use Rattle.integers.specs.Cells.OfCell.{narrow, wide}
+use Rattle.integers.proofs.Reading.{cut, read, write}
 
--- the amount is below 64 at either width
-few : (wide : Bool) (n : ℕ) → low w32 n % bits (width_of wide) < 64
-few true n = omega arith
-few false n = omega arith
+few : {w : Width} → OfCell w → (n : ℕ) → low w32 n % bits w < 64
+few narrow n = omega arith
+few wide n = omega arith
 
-module _ (wide : Bool) (n k : ℕ) (amount : k ≡ low w32 n % bits (width_of wide)) where
+module _ {w : Width} (t : OfCell w) (n k : ℕ) (amount : k ≡ low w32 n % bits w) where
   pub below : k < 64
-  below = rw amount (few wide n)
+  below = rw amount (few t n)
 
   pub signed_below : SFits w64 (pos k)
   signed_below = record { sfits = small k below }
@@ -25,21 +27,17 @@ module _ (wide : Bool) (n k : ℕ) (amount : k ≡ low w32 n % bits (width_of wi
       small : (k : ℕ) → k < 64 → k < 2 ^ 63
       small k l = omega arith
 
-  pub shl_law : (a r : ℕ) → r ≡ cell wide (a * 2 ^ k % 2 ^ 64) → r ≡ shifted (width_of wide) shl (cell wide a) (low w32 n)
+  pub shl_law : (a r : ℕ) → r ≡ low w (a * 2 ^ k % 2 ^ 64) → r ≡ shifted w shl (low w a) (low w32 n)
   unfolding shifted
   shl_law a r e =
-      e ∙ cut wide (a * 2 ^ k) ∙ sym (mul_mod_l (2 ^ bits (width_of wide)) (pow_pos (bits (width_of wide))) a (2 ^ k))
-      ∙ ap (λ (j : ℕ). cell wide a * 2 ^ j % 2 ^ bits (width_of wide)) amount
+      e ∙ cut t (a * 2 ^ k) ∙ mul-mod a (2 ^ k) (2 ^ bits w) ∙ sym (mul-mod (low w a) (2 ^ k) (2 ^ bits w) ∙ ap (λ (m : ℕ). m * (2 ^ k % 2 ^ bits w) % 2 ^ bits w) (mod-mod a (2 ^ bits w)))
+      ∙ ap (λ (j : ℕ). low w a * 2 ^ j % 2 ^ bits w) amount
 
-  pub shr_un_law : (a x r : ℕ) → x ≡ cell wide a → r ≡ x / 2 ^ k → r ≡ shifted (width_of wide) shr_un (cell wide a) (low w32 n)
-  unfolding shifted
-  shr_un_law a x r e q = q ∙ ap (λ (y : ℕ). y / 2 ^ k) e ∙ ap (λ (j : ℕ). cell wide a / 2 ^ j) amount
-
-  pub shr_law : (a r : ℕ) (z : ℤ) → z ≡ number wide a
-      → r ≡ low (width_of wide) (of_z w64 (to_z w64 (of_z w64 (shr_z (to_z w64 (of_z w64 z)) (2 ^ k)))))
-      → r ≡ shifted (width_of wide) shr (cell wide a) (low w32 n)
+  pub shr_law : (a r : ℕ) (z : ℤ) → z ≡ to_z w (low w a)
+      → r ≡ low w (of_z w64 (to_z w64 (of_z w64 (shr_z (to_z w64 (of_z w64 z)) (2 ^ k)))))
+      → r ≡ shifted w shr (low w a) (low w32 n)
   unfolding shifted
   shr_law a r z e q =
-      q ∙ ap (λ (y : ℤ). low (width_of wide) (of_z w64 (to_z w64 (of_z w64 (shr_z y (2 ^ k)))))) (read wide a e)
-      ∙ write wide {z = shr_z (number wide a) (2 ^ k)} (sfits_le (mag_shr (number wide a) (2 ^ k)) (sfits_to_z (low_fits wide a)))
-      ∙ ap (λ (j : ℕ). of_z (width_of wide) (shr_z (number wide a) (2 ^ j))) amount
+      q ∙ ap (λ (y : ℤ). low w (of_z w64 (to_z w64 (of_z w64 (shr_z y (2 ^ k)))))) (read t a e)
+      ∙ write t {z = shr_z (to_z w (low w a)) (2 ^ k)} (sfits_le (mag_shr (to_z w (low w a)) (2 ^ k)) (sfits_to_z (Fits-wrap w a)))
+      ∙ ap (λ (j : ℕ). of_z w (shr_z (to_z w (low w a)) (2 ^ j))) amount

@@ -1,362 +1,313 @@
-// The integer operators on cells of 64 bits. Each takes `wide`: true for two int64, false for two
-// int32, of which only the low 32 bits of a cell are read. Results are low bits.
+// The integer operators on cells of 64 bits, for the two types that cells hold: i64, and i32, of which only the low 32 bits of a cell are read.
+// Results are low bits.
 #![tactic(auto)]
 
-ghost use Rattle.std.specs.Prelude.{◌≡◌, suc, ◌-◌, ◌*◌, ◌%◌, ◌^◌, neg_ℤ, nat_le, unsigned_abs};
-ghost use Rattle.std.specs.Int.{w32, w64};
-ghost use mir.Val.{bits, hbits, to_z, of_z};
+ghost use Rattle.std.specs.Prelude.{◌≡◌, suc, ◌-◌, ◌%◌, ◌^◌, ℤ, neg_ℤ, FitsSigned};
+ghost use Rattle.std.specs.Int.{Width, w32, w64};
+ghost use Rattle.std.specs.Option.{SomeIff};
+ghost use mir.Val.{bits, to_z, of_z};
 ghost use Rattle.model.specs.Answer.{ok};
 ghost use Rattle.model.specs.Code.{add, sub, mul, div, rem, div_un, rem_un, and, or, xor, add_ovf, mul_ovf, sub_ovf, shl, shr, shr_un, eq, lt, le, lt_un, le_un};
 ghost use Rattle.model.specs.Operators.{wrap, holds, integer, whole_of, shifted, relates};
-ghost use Rattle.integers.specs.Cells.{width_of, low, answer};
-ghost use Rattle.integers.specs.Parts.{raised, sunk, unless, signed_of, fitting, refusal_of};
+ghost use Rattle.integers.specs.Cells.{OfCell, width_of, low};
+ghost use Rattle.integers.specs.Answers.{number_of, answer};
+ghost use Rattle.integers.specs.Parts.{quotient_of, fitting};
 
-// What an operator that can fail gives: bits, or the number that the run ends with.
-#[derive(Clone, Copy)]
-pub enum Out {
-    Bits(u64),
-    Ends(u8),
+/// Why an operator ends the run.
+#[derive(Clone, Copy, PartialEq, Eq)]
+pub enum Ends {
+    DivisionByZero,
+    // the smallest number by -1
+    Arithmetic,
+    Overflow,
+}
+
+impl From<Ends> for u8 {
+    ghost from_gives = { λ e n. n ≡ number_of e };
+
+    fn from(e: Ends) -> u8 {
+        match e {
+            Ends::DivisionByZero => 31,
+            Ends::Arithmetic => 32,
+            Ends::Overflow => 33,
+        }
+    }
 }
 
 // ---- Cells and numbers
 
-// The bits of a cell that count.
+/// The int32 of a cell.
+pub fn narrow(a: u64) -> i32
+    ensures { result ≡ to_z w32 (low w32 a) }
+{
+    (i32::low(a) as u32).cast_signed()
+}
+
+/// An integer type of cells.
+pub trait Integer {
+    ghost width: { Width };
+
+    // The bits of a cell that count.
+    fn low(a: u64) -> u64
+        ensures { result ≡ low width a };
+
+    // A cell read as a signed number.
+    fn value(a: u64) -> i64
+        ensures { result ≡ to_z width (low width a) };
+
+    // Whether a number is one of the type's.
+    fn holds(z: i64) -> bool
+        ensures { result ≡ holds width z };
+
+    // The bits of a shift's amount that count.
+    fn amount(n: u64) -> u64
+        ensures { result ≡ low w32 n % bits width };
+
+    ghost of_cell: { OfCell width };
+}
+
+impl Integer for i32 {
+    ghost width = { w32 };
+
+    fn low(a: u64) -> u64 {
+        a % 0x1_0000_0000
+    }
+
+    fn value(a: u64) -> i64 {
+        i64::from(narrow(a))
+    }
+
+    #[tactic(auto, unfolding(model::specs::Operators::holds))]
+    fn holds(z: i64) -> bool {
+        i32::try_from(z).is_ok()
+    }
+
+    fn amount(n: u64) -> u64 {
+        n % 32
+    }
+
+    ghost of_cell = { OfCell.narrow };
+}
+
+impl Integer for i64 {
+    ghost width = { w64 };
+
+    fn low(a: u64) -> u64 {
+        a
+    }
+
+    fn value(a: u64) -> i64 {
+        a.cast_signed()
+    }
+
+    #[tactic(auto, unfolding(model::specs::Operators::holds))]
+    fn holds(_z: i64) -> bool {
+        true
+    }
+
+    fn amount(n: u64) -> u64 {
+        n % 64
+    }
+
+    ghost of_cell = { OfCell.wide };
+}
+
+// The bits of a cell that count, of an int64 if `wide`.
 pub fn low(wide: bool, a: u64) -> u64
     ensures { result ≡ low (width_of wide) a }
 {
-    if wide { a } else { a % 0x1_0000_0000 }
+    if wide { i64::low(a) } else { i32::low(a) }
 }
 
-// 64 bits read as a signed number.
-pub fn signed(a: u64) -> i64
-    ensures { result ≡ to_z w64 a }
-{
-    if a < 0x8000_0000_0000_0000 {
-        a as i64
-    } else {
-        -1 - ((u64::MAX - a) as i64)
-    }
-}
-
-// The 64 bits of a signed number.
-pub fn unsigned(z: i64) -> u64
-    ensures { result ≡ of_z w64 z }
-{
-    if z < 0 {
-        u64::MAX - ((-1 - z) as u64)
-    } else {
-        z as u64
-    }
-}
-
-// An int32 read as a signed number: the sign is copied down from the top.
-pub fn narrow(a: u64) -> i64
-    ensures { result ≡ to_z w32 (low w32 a) }
-{
-    signed(a << 32) >> 32
-}
-
-// A cell read as a signed number.
+// That cell as a signed number.
 pub fn value(wide: bool, a: u64) -> i64
     ensures { result ≡ to_z (width_of wide) (low (width_of wide) a) }
 {
-    if wide { signed(a) } else { narrow(a) }
-}
-
-// Half of the numbers that a cell holds: the first whose sign is minus.
-fn half(wide: bool) -> u64
-    ensures { result ≡ 2 ^ hbits (width_of wide) }
-{
-    if wide {
-        0x8000_0000_0000_0000
-    } else {
-        0x8000_0000
-    }
+    if wide { i64::value(a) } else { i32::value(a) }
 }
 
 // ---- add, sub, mul, neg: the result wraps
 
-pub fn add(wide: bool, a: u64, b: u64) -> u64
-    ensures { integer (width_of wide) add (low (width_of wide) a) (low (width_of wide) b) ≡ ok result }
+pub fn add<I: Integer>(a: u64, b: u64) -> u64
+    ensures { integer I.width add (low I.width a) (low I.width b) ≡ ok result }
 {
-    low(wide, std::num::wrapping_add_u64(a, b))
+    I::low(a.wrapping_add(b))
 }
 
-pub fn sub(wide: bool, a: u64, b: u64) -> u64
-    ensures { integer (width_of wide) sub (low (width_of wide) a) (low (width_of wide) b) ≡ ok result }
+pub fn sub<I: Integer>(a: u64, b: u64) -> u64
+    ensures { integer I.width sub (low I.width a) (low I.width b) ≡ ok result }
 {
-    low(wide, std::num::wrapping_sub_u64(a, b))
+    I::low(a.wrapping_sub(b))
 }
 
-// The low half of the product of two whole cells, by halves.
-fn times(a: u64, b: u64) -> u64
-    ensures { result ≡ a * b % 2 ^ 64 }
+pub fn mul<I: Integer>(a: u64, b: u64) -> u64
+    ensures { integer I.width mul (low I.width a) (low I.width b) ≡ ok result }
 {
-    let al = a % 0x1_0000_0000;
-    let ah = a / 0x1_0000_0000;
-    let bl = b % 0x1_0000_0000;
-    let bh = b / 0x1_0000_0000;
-    let cross = std::num::wrapping_add_u64(ah * bl, al * bh);
-    std::num::wrapping_add_u64(al * bl, cross << 32)
+    I::low(a.wrapping_mul(b))
 }
 
-pub fn mul(wide: bool, a: u64, b: u64) -> u64
-    ensures { integer (width_of wide) mul (low (width_of wide) a) (low (width_of wide) b) ≡ ok result }
+pub fn neg<I: Integer>(a: u64) -> u64
+    ensures { result ≡ wrap I.width (neg_ℤ (to_z I.width (low I.width a))) }
 {
-    low(wide, times(a, b))
-}
-
-pub fn neg(wide: bool, a: u64) -> u64
-    ensures { result ≡ wrap (width_of wide) (neg_ℤ (to_z (width_of wide) (low (width_of wide) a))) }
-{
-    low(wide, std::num::wrapping_sub_u64(0, a))
+    I::low(a.wrapping_neg())
 }
 
 // ---- Division
 
-// What refuses a signed division, else 0: 31 for a divisor of 0, 32 for the smallest number by -1.
-fn refusal(wide: bool, a: u64, b: u64) -> u8
-    ensures { result ≡ refusal_of (width_of wide) (low (width_of wide) a) (low (width_of wide) b) }
+// The quotient of two cells, toward zero.
+fn quotient<I: Integer>(a: u64, b: u64) -> Result<i64, Ends>
+    ensures { answer result ≡ quotient_of I.width (low I.width a) (low I.width b) }
 {
-    let y = value(wide, b);
-    if y == 0 {
-        return 31;
+    if I::low(b) == 0 {
+        return Err(Ends::DivisionByZero);
     }
-    if y == -1 {
-        if low(wide, a) == half(wide) {
-            return 32;
-        }
+    match I::value(a).checked_div(I::value(b)) {
+        Some(q) if I::holds(q) => Ok(q),
+        _ => Err(Ends::Arithmetic),
     }
-    0
 }
 
 // Toward zero.
-pub fn div(wide: bool, a: u64, b: u64) -> Out
-    ensures { answer result ≡ integer (width_of wide) div (low (width_of wide) a) (low (width_of wide) b) }
+pub fn div<I: Integer>(a: u64, b: u64) -> Result<u64, Ends>
+    ensures { answer result ≡ integer I.width div (low I.width a) (low I.width b) }
 {
-    let e = refusal(wide, a, b);
-    if e != 0 {
-        return Out::Ends(e);
-    }
-    Out::Bits(low(wide, unsigned(value(wide, a) / value(wide, b))))
+    let q = quotient::<I>(a, b)?;
+    Ok(I::low(q.cast_unsigned()))
 }
 
 // With the sign of the dividend.
-pub fn rem(wide: bool, a: u64, b: u64) -> Out
-    ensures { answer result ≡ whole_of (width_of wide) rem (low (width_of wide) a) (low (width_of wide) b) }
+pub fn rem<I: Integer>(a: u64, b: u64) -> Result<u64, Ends>
+    ensures { answer result ≡ whole_of I.width rem (low I.width a) (low I.width b) }
 {
-    let e = refusal(wide, a, b);
-    if e != 0 {
-        return Out::Ends(e);
-    }
-    Out::Bits(low(wide, unsigned(value(wide, a) % value(wide, b))))
+    quotient::<I>(a, b)?;
+    Ok(I::low((I::value(a) % I::value(b)).cast_unsigned()))
 }
 
-pub fn div_un(wide: bool, a: u64, b: u64) -> Out
-    ensures { answer result ≡ whole_of (width_of wide) div_un (low (width_of wide) a) (low (width_of wide) b) }
+pub fn div_un<I: Integer>(a: u64, b: u64) -> Result<u64, Ends>
+    ensures { answer result ≡ whole_of I.width div_un (low I.width a) (low I.width b) }
 {
-    let y = low(wide, b);
-    if y == 0 {
-        return Out::Ends(31);
-    }
-    Out::Bits(low(wide, a) / y)
+    I::low(a).checked_div(I::low(b)).ok_or(Ends::DivisionByZero)
 }
 
-pub fn rem_un(wide: bool, a: u64, b: u64) -> Out
-    ensures { answer result ≡ whole_of (width_of wide) rem_un (low (width_of wide) a) (low (width_of wide) b) }
+pub fn rem_un<I: Integer>(a: u64, b: u64) -> Result<u64, Ends>
+    ensures { answer result ≡ whole_of I.width rem_un (low I.width a) (low I.width b) }
 {
-    let y = low(wide, b);
-    if y == 0 {
-        return Out::Ends(31);
-    }
-    Out::Bits(low(wide, a) % y)
+    I::low(a).checked_rem(I::low(b)).ok_or(Ends::DivisionByZero)
 }
 
 // ---- add.ovf, sub.ovf, mul.ovf: a signed result that doesn't fit ends the run
 
-// The low bits at the top of the cell.
-fn raised(wide: bool, a: u64) -> u64
-    ensures { result ≡ raised wide a }
+// The bits of a result that 64 bits hold, if the type holds it too.
+fn fitting<I: Integer>(z: Option<i64>) -> Result<u64, Ends>
+    ensures { (x : ℤ) → SomeIff z (FitsSigned w64 x) x → answer result ≡ fitting I.width x }
 {
-    if wide { a } else { a << 32 }
-}
-
-// The result at the top of a cell, unless it is over.
-fn settled(wide: bool, over: bool, s: u64) -> Out
-    ensures { answer result ≡ unless over (sunk wide s) }
-{
-    if over {
-        return Out::Ends(33);
-    }
-    if wide {
-        Out::Bits(s)
-    } else {
-        Out::Bits(s >> 32)
+    match z {
+        Some(x) if I::holds(x) => Ok(I::low(x.cast_unsigned())),
+        _ => Err(Ends::Overflow),
     }
 }
 
-// Whether the sign is minus.
-fn minus(a: u64) -> bool
-    ensures { result ≡ nat_le (2 ^ 63) a }
+pub fn add_ovf<I: Integer>(a: u64, b: u64) -> Result<u64, Ends>
+    ensures { answer result ≡ whole_of I.width add_ovf (low I.width a) (low I.width b) }
 {
-    0x8000_0000_0000_0000 <= a
+    fitting::<I>(I::value(a).checked_add(I::value(b)))
 }
 
-// Over where two of one sign give the other.
-pub fn add_ovf(wide: bool, a: u64, b: u64) -> Out
-    ensures { answer result ≡ whole_of (width_of wide) add_ovf (low (width_of wide) a) (low (width_of wide) b) }
+pub fn sub_ovf<I: Integer>(a: u64, b: u64) -> Result<u64, Ends>
+    ensures { answer result ≡ whole_of I.width sub_ovf (low I.width a) (low I.width b) }
 {
-    let x = raised(wide, a);
-    let y = raised(wide, b);
-    let s = std::num::wrapping_add_u64(x, y);
-    let p = minus(x);
-    settled(wide, (p == minus(y)) & (minus(s) != p), s)
+    fitting::<I>(I::value(a).checked_sub(I::value(b)))
 }
 
-// Over where two of unlike signs give the sign of the second.
-pub fn sub_ovf(wide: bool, a: u64, b: u64) -> Out
-    ensures { answer result ≡ whole_of (width_of wide) sub_ovf (low (width_of wide) a) (low (width_of wide) b) }
+pub fn mul_ovf<I: Integer>(a: u64, b: u64) -> Result<u64, Ends>
+    ensures { answer result ≡ whole_of I.width mul_ovf (low I.width a) (low I.width b) }
 {
-    let x = raised(wide, a);
-    let y = raised(wide, b);
-    let s = std::num::wrapping_sub_u64(x, y);
-    let p = minus(x);
-    settled(wide, (p != minus(y)) & (minus(s) != p), s)
-}
-
-// The size of a number.
-fn magnitude(z: i64) -> u64
-    ensures { result ≡ unsigned_abs z }
-{
-    if z < 0 {
-        ((-1 - z) as u64) + 1
-    } else {
-        z as u64
-    }
-}
-
-// Whether a product is at most the limit. Factors below 2^32 need no division.
-fn bounded(m: u64, n: u64, limit: u64) -> bool
-    ensures { result ≡ nat_le (m * n) limit }
-{
-    if m < 0x1_0000_0000 {
-        if n < 0x1_0000_0000 {
-            return m * n <= limit;
-        }
-    }
-    if n == 0 {
-        return true;
-    }
-    m <= limit / n
-}
-
-// The product of two sizes, under a minus sign if the factors have opposite signs.
-fn signed_product(wide: bool, opposite: bool, m: u64, n: u64) -> Out
-    ensures { answer result ≡ fitting (width_of wide) (signed_of opposite (m * n)) }
-{
-    if opposite {
-        if bounded(m, n, half(wide)) {
-            return Out::Bits(low(wide, std::num::wrapping_sub_u64(0, m * n)));
-        }
-        return Out::Ends(33);
-    }
-    if bounded(m, n, half(wide) - 1) {
-        return Out::Bits(m * n);
-    }
-    Out::Ends(33)
-}
-
-pub fn mul_ovf(wide: bool, a: u64, b: u64) -> Out
-    ensures { answer result ≡ whole_of (width_of wide) mul_ovf (low (width_of wide) a) (low (width_of wide) b) }
-{
-    let x = value(wide, a);
-    let y = value(wide, b);
-    signed_product(wide, (x < 0) != (y < 0), magnitude(x), magnitude(y))
+    fitting::<I>(I::value(a).checked_mul(I::value(b)))
 }
 
 // ---- Bits and shifts
 
-pub fn bit_and(wide: bool, a: u64, b: u64) -> u64
-    ensures { whole_of (width_of wide) and (low (width_of wide) a) (low (width_of wide) b) ≡ ok result }
+#[tactic(auto, using(std::proofs::lemmas::Nat::and_mod), unfolding(model::specs::Operators::whole_of))]
+pub fn bit_and<I: Integer>(a: u64, b: u64) -> u64
+    ensures { whole_of I.width and (low I.width a) (low I.width b) ≡ ok result }
 {
-    low(wide, a & b)
+    I::low(a & b)
 }
 
-pub fn bit_or(wide: bool, a: u64, b: u64) -> u64
-    ensures { whole_of (width_of wide) or (low (width_of wide) a) (low (width_of wide) b) ≡ ok result }
+#[tactic(auto, using(std::proofs::lemmas::Nat::or_mod), unfolding(model::specs::Operators::whole_of))]
+pub fn bit_or<I: Integer>(a: u64, b: u64) -> u64
+    ensures { whole_of I.width or (low I.width a) (low I.width b) ≡ ok result }
 {
-    low(wide, a | b)
+    I::low(a | b)
 }
 
-pub fn bit_xor(wide: bool, a: u64, b: u64) -> u64
-    ensures { whole_of (width_of wide) xor (low (width_of wide) a) (low (width_of wide) b) ≡ ok result }
+#[tactic(auto, using(std::proofs::lemmas::Nat::xor_mod), unfolding(model::specs::Operators::whole_of))]
+pub fn bit_xor<I: Integer>(a: u64, b: u64) -> u64
+    ensures { whole_of I.width xor (low I.width a) (low I.width b) ≡ ok result }
 {
-    low(wide, a ^ b)
+    I::low(a ^ b)
 }
 
-pub fn complement(wide: bool, a: u64) -> u64
-    ensures { result ≡ 2 ^ bits (width_of wide) - suc (low (width_of wide) a) }
+pub fn complement<I: Integer>(a: u64) -> u64
+    ensures { result ≡ 2 ^ bits I.width - suc (low I.width a) }
 {
-    low(wide, !a)
+    I::low(!a)
 }
 
-// The bits of an amount that count.
-fn amount(wide: bool, n: u64) -> u64
-    ensures { result ≡ low w32 n % bits (width_of wide) }
+pub fn shl<I: Integer>(a: u64, n: u64) -> u64
+    ensures { result ≡ shifted I.width shl (low I.width a) (low w32 n) }
 {
-    if wide { n % 64 } else { n % 32 }
-}
-
-pub fn shl(wide: bool, a: u64, n: u64) -> u64
-    ensures { result ≡ shifted (width_of wide) shl (low (width_of wide) a) (low w32 n) }
-{
-    low(wide, a << amount(wide, n))
+    I::low(a << I::amount(n))
 }
 
 // Keeps the sign.
-pub fn shr(wide: bool, a: u64, n: u64) -> u64
-    ensures { result ≡ shifted (width_of wide) shr (low (width_of wide) a) (low w32 n) }
+pub fn shr<I: Integer>(a: u64, n: u64) -> u64
+    ensures { result ≡ shifted I.width shr (low I.width a) (low w32 n) }
 {
-    low(wide, unsigned(value(wide, a) >> amount(wide, n)))
+    I::low((I::value(a) >> I::amount(n)).cast_unsigned())
 }
 
-pub fn shr_un(wide: bool, a: u64, n: u64) -> u64
-    ensures { result ≡ shifted (width_of wide) shr_un (low (width_of wide) a) (low w32 n) }
+pub fn shr_un<I: Integer>(a: u64, n: u64) -> u64
+    ensures { result ≡ shifted I.width shr_un (low I.width a) (low w32 n) }
 {
-    low(wide, a) >> amount(wide, n)
+    I::low(a) >> I::amount(n)
 }
 
 // ---- Comparisons
 
-pub fn equal(wide: bool, a: u64, b: u64) -> bool
-    ensures { result ≡ relates (width_of wide) eq (low (width_of wide) a) (low (width_of wide) b) }
+#[tactic(auto, unfolding(model::specs::Operators::relates))]
+pub fn equal<I: Integer>(a: u64, b: u64) -> bool
+    ensures { result ≡ relates I.width eq (low I.width a) (low I.width b) }
 {
-    let d = std::num::wrapping_sub_u64(a, b);
-    low(wide, d) == 0
+    I::low(a) == I::low(b)
 }
 
-pub fn less(wide: bool, a: u64, b: u64) -> bool
-    ensures { result ≡ relates (width_of wide) lt (low (width_of wide) a) (low (width_of wide) b) }
+#[tactic(auto, using(crate::proofs::Reading::read), unfolding(model::specs::Operators::relates))]
+pub fn less<I: Integer>(a: u64, b: u64) -> bool
+    ensures { result ≡ relates I.width lt (low I.width a) (low I.width b) }
 {
-    value(wide, a) < value(wide, b)
+    I::value(a) < I::value(b)
 }
 
-pub fn at_most(wide: bool, a: u64, b: u64) -> bool
-    ensures { result ≡ relates (width_of wide) le (low (width_of wide) a) (low (width_of wide) b) }
+#[tactic(auto, using(crate::proofs::Reading::read), unfolding(model::specs::Operators::relates))]
+pub fn at_most<I: Integer>(a: u64, b: u64) -> bool
+    ensures { result ≡ relates I.width le (low I.width a) (low I.width b) }
 {
-    value(wide, a) <= value(wide, b)
+    I::value(a) <= I::value(b)
 }
 
-pub fn less_un(wide: bool, a: u64, b: u64) -> bool
-    ensures { result ≡ relates (width_of wide) lt_un (low (width_of wide) a) (low (width_of wide) b) }
+#[tactic(auto, unfolding(model::specs::Operators::relates))]
+pub fn less_un<I: Integer>(a: u64, b: u64) -> bool
+    ensures { result ≡ relates I.width lt_un (low I.width a) (low I.width b) }
 {
-    low(wide, a) < low(wide, b)
+    I::low(a) < I::low(b)
 }
 
-pub fn at_most_un(wide: bool, a: u64, b: u64) -> bool
-    ensures { result ≡ relates (width_of wide) le_un (low (width_of wide) a) (low (width_of wide) b) }
+#[tactic(auto, unfolding(model::specs::Operators::relates))]
+pub fn at_most_un<I: Integer>(a: u64, b: u64) -> bool
+    ensures { result ≡ relates I.width le_un (low I.width a) (low I.width b) }
 {
-    low(wide, a) <= low(wide, b)
+    I::low(a) <= I::low(b)
 }
 
 // ---- Conversions
@@ -364,18 +315,18 @@ pub fn at_most_un(wide: bool, a: u64, b: u64) -> bool
 pub fn conv_i8(a: u64) -> u64
     ensures { result ≡ of_z w64 (to_z w32 (low w32 a)) }
 {
-    unsigned(narrow(a))
+    i32::value(a).cast_unsigned()
 }
 
 pub fn conv_i4(a: u64) -> u64
     ensures { result ≡ low w32 a }
 {
-    a % 0x1_0000_0000
+    i32::low(a)
 }
 
 // Whether an int32 holds the number of an int64.
 pub fn admitted(a: u64) -> bool
     ensures { result ≡ holds w32 (to_z w64 a) }
 {
-    std::num::wrapping_add_u64(a, 0x8000_0000) < 0x1_0000_0000
+    i32::holds(a.cast_signed())
 }

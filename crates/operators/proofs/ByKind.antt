@@ -210,21 +210,27 @@ module _ (r : Relation) (k l a b : ℕ) where
 -- ---- One operand
 
 module _ (a : ℕ) (ha : a < 2 ^ 64) where
-  pub neg_bits : (k : ℕ) → 0 < k → k < 3 → {r : ℕ} → r ≡ wrap (width_of (eqb k 2)) (neg_ℤ (to_z (width_of (eqb k 2)) (low (width_of (eqb k 2)) a))) → ok (k, r) ≡ unary_gives neg k a
+  pub neg_wide : (k : ℕ) → k ≡ 2 → {r : ℕ} → r ≡ wrap w64 (neg_ℤ (to_z w64 (low w64 a))) → ok (k, r) ≡ unary_gives neg k a
   unfolding unary_gives unary_of neg_of conversion need ◌>>=◌ kind_by kind_of_type kind_number kind shown pick
-  neg_bits zero h i q = absurd (omega arith)
-  neg_bits (suc zero) h i q = rw q
-  neg_bits (suc (suc zero)) h i q = rw (q, low_all ha)
-  neg_bits (suc (suc (suc k))) h i q = absurd (omega arith)
+  neg_wide k e q = rw (e, q, low_all ha)
 
-  pub not_gives : (k : ℕ) → 0 < k → k < 3 → {r : ℕ} → r ≡ 2 ^ bits (width_of (eqb k 2)) - suc (low (width_of (eqb k 2)) a) → ok (k, r) ≡ unary_gives not_bits k a
+  pub not_wide : (k : ℕ) → k ≡ 2 → {r : ℕ} → r ≡ 2 ^ bits w64 - suc (low w64 a) → ok (k, r) ≡ unary_gives not_bits k a
   unfolding unary_gives unary_of not_of conversion need ◌>>=◌ kind_by kind_of_type kind_number kind shown pick
-  not_gives zero h i q = absurd (omega arith)
-  not_gives (suc zero) h i q = rw q
-  not_gives (suc (suc zero)) h i q = rw (q, low_all ha)
-  not_gives (suc (suc (suc k))) h i q = absurd (omega arith)
+  not_wide k e q = rw (e, q, low_all ha)
 
 module _ (a : ℕ) where
+  pub neg_bits : (k : ℕ) → 0 < k → k < 3 → (k ≡ 2 → ⊥) → {r : ℕ} → r ≡ wrap w32 (neg_ℤ (to_z w32 (low w32 a))) → ok (k, r) ≡ unary_gives neg k a
+  unfolding unary_gives unary_of neg_of conversion need ◌>>=◌ kind_by kind_of_type kind_number kind shown pick
+  neg_bits zero h i n q = absurd (omega arith)
+  neg_bits (suc zero) h i n q = rw q
+  neg_bits (suc (suc k)) h i n q = absurd (n (omega arith))
+
+  pub not_gives : (k : ℕ) → 0 < k → k < 3 → (k ≡ 2 → ⊥) → {r : ℕ} → r ≡ 2 ^ bits w32 - suc (low w32 a) → ok (k, r) ≡ unary_gives not_bits k a
+  unfolding unary_gives unary_of not_of conversion need ◌>>=◌ kind_by kind_of_type kind_number kind shown pick
+  not_gives zero h i n q = absurd (omega arith)
+  not_gives (suc zero) h i n q = rw q
+  not_gives (suc (suc k)) h i n q = absurd (n (omega arith))
+
   pub conv4_bits : (k : ℕ) → 0 < k → k < 3 → {r : ℕ} → r ≡ low w32 a → ok (1, r) ≡ unary_gives conv_i4 k a
   unfolding unary_gives unary_of conv4_of conversion need ◌>>=◌ kind_by kind_of_type kind_number kind shown pick
   conv4_bits zero h i q = absurd (omega arith)

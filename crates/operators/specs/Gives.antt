@@ -1,14 +1,16 @@
 -- What the operators give, by number: a kind and bits, or the number that the run ends with.
 use Rattle.std.specs.Prelude.{ℕ, ◌-◌, Bool, ltb, eqb}
+use Rattle.std.specs.Prelude as Rust
+use Rattle.std.specs.Prelude.{Result, Ok, Err, Some, None}
 use Rattle.std.proofs.Math.Option.{Option, none, some}
 use Rattle.model.specs.Answer.{Answer, bad, ok, ◌>>=◌, need, pick, map_option}
 use Rattle.model.specs.Code.{Number, add, sub, mul, div, Whole, rem, div_un, rem_un, and, or, xor, add_ovf, mul_ovf, sub_ovf, Shift, shl, shr, shr_un, Relation, eq, ne, lt, le, gt, ge, lt_un, le_un, gt_un, ge_un, Binary, number, whole, shift, compare, Unary, neg, not_bits, conv_i4, conv_i8, conv_r8, Jump, always, iftrue, iffalse, when}
 use Rattle.model.specs.Operators.{binary_of, unary_of, comparison}
 use Rattle.state.specs.View.{kind_by, kind_of_type, shown}
-use Rattle.operators.specs.declared.operators.Given.{Given}
-use Rattle.operators.specs.declared.operators.Given.TheVariants.{Cell, Ends}
-use Rattle.operators.specs.declared.comparisons.Holds.{Holds}
-use Rattle.operators.specs.declared.comparisons.Holds.TheVariants.{Says, Wrong}
+use Rattle.integers.specs.Answers.{number_of}
+use Rattle.operators.specs.declared.operators.Cell.{Cell}
+use Rattle.operators.specs.declared.operators.Ends.{Ends}
+use Rattle.operators.specs.declared.operators.Ends.TheVariants.{Integer, WrongType}
 
 -- ---- Operators by number
 
@@ -57,9 +59,15 @@ jump_by n = pick (eqb n 0) always (pick (eqb n 1) iftrue (pick (eqb n 2) iffalse
 
 -- ---- What an operator gives
 
-abbrev pub given : Given → Answer ℕ (ℕ × ℕ)
-given (Cell k b) = ok (k, b)
-given (Ends e) = bad e
+-- the number that the run ends with
+abbrev pub ends_with : Ends → ℕ
+ends_with (Integer e) = number_of e
+ends_with WrongType = 45
+
+-- a kind and bits, or that number
+abbrev pub given : Result Cell Ends → Answer ℕ (ℕ × ℕ)
+given (Ok c) = ok (c.kind, c.bits)
+given (Err e) = bad (ends_with e)
 
 -- bits as a cell of a kind
 abbrev pub of_kind : ℕ → Answer ℕ ℕ → Answer ℕ (ℕ × ℕ)
@@ -77,9 +85,9 @@ unary_gives o k a = need (unary_of o (kind_by k)) 45 >>= λ g. ok (kind_of_type 
 
 -- ---- Comparisons
 
-abbrev pub says : Holds → Option Bool
-says (Says b) = some b
-says Wrong = none
+abbrev pub says : Rust.Option Bool → Option Bool
+says (Some b) = some b
+says None = none
 
 -- whether a comparison holds, none where the kinds have none
 unfoldable pub compared : Relation → ℕ → ℕ → ℕ → ℕ → Option Bool

@@ -6,9 +6,8 @@ ghost use Rattle.state.specs.Meets.{Stays, Topped, Few, on_stack};
 ghost use Rattle.state.specs.Steps.{Own, ComesTo};
 ghost use Rattle.operators.specs.Gives.{binary_by, unary_by};
 
-use crate::operators::{Given, converted, operated};
-use state::ending::{Ending, ends};
-use state::{Stay, Step};
+use crate::operators::{converted, operated};
+use state::{Gone, Stay};
 
 // Two operands: numbers 0 add, 1 sub, 2 mul, 3 div; 4 rem, 5 div.un, 6 rem.un, 7 and, 8 or, 9 xor, 10 add.ovf, 11 mul.ovf, 12 sub.ovf; 13 shl, 14 shr,
 // 15 shr.un; from 16 on a comparison.
@@ -33,17 +32,21 @@ pub fn binary(
     }
     let i = sp - 2;
     let j = sp - 1;
-    let o = operated(op, kinds[i], kinds[j], cells[i], cells[j]);
-    match o {
-        Given::Cell(k, n) => {
-            kinds[i] = k;
-            cells[i] = n;
-            Step::On {
+    match operated(op, kinds[i], kinds[j], cells[i], cells[j]) {
+        Ok(cell) => {
+            kinds[i] = cell.kind;
+            cells[i] = cell.bits;
+            Gone {
+                how: 0,
                 at: next,
                 sp: i + 1,
             }
         }
-        Given::Ends(e) => Step::Ends(e),
+        Err(e) => Gone {
+            how: u8::from(e),
+            at: at,
+            sp: sp,
+        },
     }
 }
 
@@ -68,16 +71,20 @@ pub fn unary(
         return ends(Ending::TooFew);
     }
     let i = sp - 1;
-    let o = converted(op, kinds[i], cells[i]);
-    match o {
-        Given::Cell(k, n) => {
-            kinds[i] = k;
-            cells[i] = n;
-            Step::On {
+    match converted(op, kinds[i], cells[i]) {
+        Ok(cell) => {
+            kinds[i] = cell.kind;
+            cells[i] = cell.bits;
+            Gone {
+                how: 0,
                 at: next,
                 sp: i + 1,
             }
         }
-        Given::Ends(e) => Step::Ends(e),
+        Err(e) => Gone {
+            how: u8::from(e),
+            at: at,
+            sp: sp,
+        },
     }
 }

@@ -1,33 +1,25 @@
-use Rattle.std.proofs.Common.{sym, ◌∙◌}
+use Rattle.std.proofs.Common.{ap, ◌∙◌, to_z, of_z, w64}
+use Rattle.std.proofs.lemmas.Result.{err_from_is_err_and}
+use lib.IntN.{ℤ}
 use lib.Signed.{quot_z}
 use Rattle.model.specs.Operators.{integer}
-use Rattle.integers.specs.Cells.{width_of, low}
-use Rattle.integers.proofs.Divide.{refused, divisible, quotient_fits, divides}
+use Rattle.integers.specs.Cells.{low}
+use Rattle.integers.proofs.Reading.{write}
+use Rattle.integers.proofs.Checked.{refused, allowed, quotient_fits, done}
 use Rattle.integers.proofs.div.Goals as goal
 
-pub returns-then-e-ne0 : goal.returns-then-e-ne0
+pub returns-in_err-q : goal.returns-in_err-q
 unfolding integer
-returns-then-e-ne0 c =
-    let s = c in
-    refused s.args.wide _ (low (width_of s.args.wide) s.args.a) (low (width_of s.args.wide) s.args.b) c.refusal-e.ensures c.if-e-ne0.true
-
-pub nonzero_div-value : goal.nonzero_div-value
-nonzero_div-value c =
-    let t = c in
-    let s = t in
-    divisible s.args.wide s.args.a s.args.b c.value.result c.value-2.result c.value.ensures c.value-2.ensures (sym t.refusal-e.ensures ∙ t.if-e-ne0.false)
+returns-in_err-q g c =
+    let p = err_from_is_err_and c.from_residual.result c.from_residual.ensures.1 in
+    rw (p.1, p.2) (refused g.I.Integer.width _ _ quot_z c.in_err-q.ensures)
 
 pub returns : goal.returns
 unfolding integer
-returns c =
-    let v = c in
-    let t = v in
-    let s = t in
-    let x = v.value.result in
-    let y = v.value-2.result in
-    let ex = v.value.ensures in
-    let ey = v.value-2.ensures in
-    let z = sym t.refusal-e.ensures ∙ t.if-e-ne0.false in
-    divides s.args.wide s.args.a s.args.b x y ex ey z quot_z c.unsigned.result c.low.result
-    (quotient_fits s.args.wide s.args.a s.args.b x y ex ey z)
-    c.unsigned.ensures c.low.ensures
+returns g c =
+    let w = g.I.Integer.width in
+    let e = c.in_ok-q.ensures in
+    let q = (allowed w (low w c.args.a) (low w c.args.b) e).1.1 in
+    done w _ _ quot_z e
+    (c.low.ensures ∙ ap (low w) c.cast_unsigned.ensures ∙ ap (λ (z : ℤ). low w (of_z w64 (to_z w64 (of_z w64 z)))) q
+    ∙ write g.met.I.Integer.of_cell (quotient_fits g.met.I.Integer.of_cell c.args.a c.args.b e))

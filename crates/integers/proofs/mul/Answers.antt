@@ -1,7 +1,9 @@
-use Rattle.integers.proofs.Wrapping.{low_mul}
+use Rattle.std.proofs.Common.{sym, ap, ◌∙◌}
+use Rattle.model.specs.Answer.{ok}
+use Rattle.model.specs.Operators.{integer}
+use Rattle.integers.proofs.Wrapping.{products}
 use Rattle.integers.proofs.mul.Goals as goal
 
 pub returns : goal.returns
-returns c =
-    let s = c in
-    low_mul s.args.wide s.args.a s.args.b c.times.result c.low.result c.times.ensures c.low.ensures
+unfolding integer
+returns g c = ap ok (sym (c.low.ensures ∙ products g.met.I.Integer.of_cell c.args.a c.args.b))

@@ -1,12 +1,13 @@
-use Rattle.std.proofs.Common.{◌∙◌}
-use Rattle.model.specs.Operators.{whole_of}
-use Rattle.integers.proofs.Fitting.{product_settled}
+use Rattle.std.proofs.Common.{◌*ℤ◌, ◌∙◌}
+use Rattle.model.specs.Operators.{whole_of, checked}
+use Rattle.integers.specs.Parts.{fitting}
+use Rattle.integers.proofs.Reading.{read}
 use Rattle.integers.proofs.mul_ovf.Goals as goal
 
 pub returns : goal.returns
-unfolding whole_of
-returns c =
-    let v = c in
-    let s = v in
-    c.signed_product.ensures
-    ∙ product_settled s.args.wide s.args.a s.args.b v.value-x.ensures v.value-y.ensures c.magnitude.ensures c.magnitude-2.ensures
+unfolding whole_of checked fitting
+returns g c =
+    let t = g.met.I.Integer.of_cell in
+    let x = read t c.args.a c.value.ensures in
+    let y = read t c.args.b c.value-2.ensures in
+    c.fitting.ensures _ c.checked_mul.ensures ∙ (λ i. fitting g.I.Integer.width (x i *ℤ y i))

@@ -1,7 +1,9 @@
-use Rattle.integers.proofs.Wrapping.{low_sub}
+use Rattle.std.proofs.Common.{sym, ap, ◌∙◌}
+use Rattle.model.specs.Answer.{ok}
+use Rattle.model.specs.Operators.{integer}
+use Rattle.integers.proofs.Wrapping.{differences}
 use Rattle.integers.proofs.sub.Goals as goal
 
 pub returns : goal.returns
-returns c =
-    let s = c in
-    low_sub s.args.wide s.args.a s.args.b c.wrapping_sub_u64.result c.low.result c.wrapping_sub_u64.ensures.value c.low.ensures
+unfolding integer
+returns g c = ap ok (sym (c.low.ensures ∙ differences g.met.I.Integer.of_cell c.args.a c.args.b c.ranges.b.fits))

@@ -1,17 +1,13 @@
-use Rattle.std.proofs.Common.{◌∙◌}
-use Rattle.model.specs.Operators.{whole_of}
-use Rattle.integers.proofs.Fitting.{difference_settled}
+use Rattle.std.proofs.Common.{◌-ℤ◌, ◌∙◌}
+use Rattle.model.specs.Operators.{whole_of, checked}
+use Rattle.integers.specs.Parts.{fitting}
+use Rattle.integers.proofs.Reading.{read}
 use Rattle.integers.proofs.sub_ovf.Goals as goal
 
 pub returns : goal.returns
-unfolding whole_of
-returns c =
-    let r = c in
-    let q = r in
-    let p = q in
-    let t = p in
-    let y = t in
-    let s = y in
-    c.settled.ensures
-    ∙ difference_settled s.args.wide s.args.a s.args.b s.ranges.a.fits s.ranges.b.fits y.raised-x.ensures y.raised-y.ensures t.wrapping_sub_u64-s.type_inv
-    p.minus-p.ensures q.minus.ensures r.minus-2.ensures t.wrapping_sub_u64-s.ensures.value
+unfolding whole_of checked fitting
+returns g c =
+    let t = g.met.I.Integer.of_cell in
+    let x = read t c.args.a c.value.ensures in
+    let y = read t c.args.b c.value-2.ensures in
+    c.fitting.ensures _ c.checked_sub.ensures ∙ (λ i. fitting g.I.Integer.width (x i -ℤ y i))

@@ -1,31 +1,18 @@
-use mathlib.Core.Path.{sym, ap, ◌∙◌}
-use mathlib.Core.Bool.{true, false}
-use native.Mathlib.Omega.{arith}
+use mathlib.Core.Path.{◌≡◌, refl}
+use mathlib.Core.Bool.{Bool, true, false}
+use mir.Val.{bool_byte}
 use Rattle.model.specs.Operators.{flag}
-use Rattle.operators.specs.Gives.{says}
-use Rattle.operators.proofs.ByKind.{compared_narrow, compare_says, compare_wrong}
+use Rattle.operators.proofs.ByKind.{compare_says, compare_wrong}
 use Rattle.operators.proofs.operators.compare.Goals as goal
 
-pub returns-then-related_bits : goal.returns-then-related_bits
+byte_flag : (t : Bool) → bool_byte t ≡ flag t
 unfolding flag
-returns-then-related_bits c =
-    λ h l. compare_says _ _ _ _ _ {t = true} (compared_narrow _ _ _ _ _ (omega arith) (omega arith) (sym c.if-related_bits.true ∙ c.related_bits.ensures))
+byte_flag true = refl
+byte_flag false = refl
 
-pub returns-then-pair-eq-TWO_NARROW : goal.returns-then-pair-eq-TWO_NARROW
-unfolding flag
-returns-then-pair-eq-TWO_NARROW c =
-    λ h l. compare_says _ _ _ _ _ {t = false} (compared_narrow _ _ _ _ _ (omega arith) (omega arith) (sym c.if-related_bits.false ∙ c.related_bits.ensures))
+pub returns-in-Some : goal.returns-in-Some
+returns-in-Some c =
+    λ h l. rw (c.from.ensures, byte_flag c.in-Some.holds) (compare_says _ _ _ _ _ (c.in-Some.ensures _ _ h l c.both.ensures))
 
-pub returns-then-b : goal.returns-then-b
-unfolding flag
-returns-then-b c =
-    λ h l. compare_says _ _ _ _ _ {t = true} (sym (ap says c.in-Says.is ∙ rw c.if-b.true) ∙ c.related-said.ensures _ _ h l (omega arith) (λ z. omega arith))
-
-pub returns-else-b : goal.returns-else-b
-unfolding flag
-returns-else-b c =
-    λ h l. compare_says _ _ _ _ _ {t = false} (sym (ap says c.in-Says.is ∙ rw c.if-b.false) ∙ c.related-said.ensures _ _ h l (omega arith) (λ z. omega arith))
-
-pub returns-in-Wrong : goal.returns-in-Wrong
-returns-in-Wrong c =
-    λ h l. compare_wrong _ _ _ _ _ (sym (ap says c.in-Wrong.is) ∙ c.related-said.ensures _ _ h l (omega arith) (λ z. omega arith))
+pub returns-in-None : goal.returns-in-None
+returns-in-None c = λ h l. compare_wrong _ _ _ _ _ (c.in-None.ensures _ _ h l c.both.ensures)

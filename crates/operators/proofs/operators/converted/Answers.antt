@@ -5,8 +5,8 @@ use Rattle.operators.proofs.operators.converted.Goals as goal
 pub returns-then-k-eq0 : goal.returns-then-k-eq0
 returns-then-k-eq0 c = λ h. unary_reference _ _ _ c.if-k-eq0.true
 
-pub returns-then-k-lt3 : goal.returns-then-k-lt3
-returns-then-k-lt3 c = λ h. c.converted_bits.ensures
+pub returns-then-k-lt-REAL : goal.returns-then-k-lt-REAL
+returns-then-k-lt-REAL c = λ h. c.converted_bits.ensures
 
 pub returns-then-op-eq0 : goal.returns-then-op-eq0
 returns-then-op-eq0 c = λ h. neg_real _ _ (omega arith) _ c.if-op-eq0.true c.fneg.ensures

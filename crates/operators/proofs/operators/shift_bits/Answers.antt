@@ -5,13 +5,13 @@ use Rattle.operators.proofs.operators.shift_bits.Goals as goal
 
 pub returns-in-0 : goal.returns-in-0
 unfolding shift_by pick
-returns-in-0 c = simp c.in-0.is c.shl.ensures
+returns-in-0 g c = simp c.in-0.is c.shl.ensures
 
 pub returns-in-1 : goal.returns-in-1
 unfolding shift_by pick
-returns-in-1 c = simp c.in-1.is c.shr.ensures
+returns-in-1 g c = simp c.in-1.is c.shr.ensures
 
 pub returns-in_default : goal.returns-in_default
 unfolding shift_by pick
-returns-in_default c =
+returns-in_default g c =
     simp (ne_eqb _ _ c.in_default.in_default-own.rest.1, ne_eqb _ _ c.in_default.in_default-own.rest.0.1) c.shr_un.ensures

@@ -10,11 +10,9 @@ use Rattle.operators.proofs.stacked.binary.Goals as goal
 pub returns-then-sp-y : goal.returns-then-sp-y
 returns-then-sp-y c = rw c.ends.ensures (record { own = search rules; meets = λ w. binary_none _ _ _ _ c.if-sp-y.true })
 
-pub returns-in-Cell : goal.returns-in-Cell
+pub returns-in-Ok : goal.returns-in-Ok
 unfolding put goto
-returns-in-Cell c = record { own = record { stays = refl; ended = refl; topped = record { low = omega arith; high = omega arith } }; meets = λ w. binary_cell _ _ _ _ c.if-sp-y.false (sym (ap given c.in-Cell.is) ∙ c.operated-o.ensures (c.requires.few.most _) (c.requires.few.most _)) }
+returns-in-Ok c = record { topped = omega arith; meets = λ w. binary_cell _ _ _ _ c.if-sp-y.false (sym (ap given c.in-Ok.is) ∙ c.operated.ensures (c.requires.few.most _) (c.requires.few.most _)) }
 
-pub returns-in-Ends : goal.returns-in-Ends
-returns-in-Ends c =
-    let given_is = sym (ap given c.in-Ends.is) ∙ c.operated-o.ensures (c.requires.few.most _) (c.requires.few.most _) in
-    record { own = record { stays = refl; ended = numbered given_is (binary_numbered (binary_by c.args.op) _ _ _ _); topped = c.requires.topped }; meets = λ w. binary_ends _ _ _ _ c.if-sp-y.false given_is }
+pub returns-in-Err : goal.returns-in-Err
+returns-in-Err c = record { topped = search rules; meets = λ w. rw c.from.ensures (binary_ends _ _ _ _ c.if-sp-y.false (sym (ap given c.in-Err.is) ∙ c.operated.ensures (c.requires.few.most _) (c.requires.few.most _))) }

@@ -1,6 +1,0 @@
-use Rattle.model.specs.Operators.{relates}
-use Rattle.integers.proofs.less_un.Goals as goal
-
-pub returns : goal.returns
-unfolding relates
-returns c = cc
