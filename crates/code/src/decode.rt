@@ -7,7 +7,7 @@ ghost use Rattle.code.specs.Lengths.{Lengths};
 ghost use Rattle.code.specs.Insn.{Length, ins_of, size_at};
 
 use super::insn::Insn;
-use super::little::{eight, four, one};
+use super::little::first;
 
 // The operand of an instruction of a size, from the part that begins just after its opcode and has all its bytes.
 fn operand(rest: &[u8], size: usize) -> u64
@@ -15,16 +15,12 @@ fn operand(rest: &[u8], size: usize) -> u64
     requires size_inside { size ≤ length rest.now + 1 }
     ensures { result ≡ little (size - 1) rest.now }
 {
-    if size < 2 {
-        return 0;
+    match size {
+        2 => first::<1>(rest),
+        5 => first::<4>(rest),
+        9 => first::<8>(rest),
+        _ => 0,
     }
-    if size == 2 {
-        return one(rest);
-    }
-    if size == 5 {
-        return four(rest);
-    }
-    eight(rest)
 }
 
 // The length by the first byte, but 0 where FE is followed by a byte that says nothing.
@@ -49,13 +45,6 @@ fn kept_size(code: &[u8], at: usize, size: usize) -> usize
     size
 }
 
-// A byte as a number.
-fn wide(b: u8) -> usize
-    ensures { (result ≡ b) × (result < 256) }
-{
-    b as usize
-}
-
 // The length of the instruction at an offset, by the table of lengths; 0 where none can be read.
 pub fn size_at(lengths: &[u8; 256], code: &[u8], at: usize) -> usize
     requires lengths { Lengths lengths.now }
@@ -65,8 +54,7 @@ pub fn size_at(lengths: &[u8; 256], code: &[u8], at: usize) -> usize
     ensures result_at_most { result ≤ 9 }
     ensures at_inside { at + result ≤ length code.now }
 {
-    let b = wide(code[at]);
-    let size = wide(lengths[b]);
+    let size = usize::from(lengths[usize::from(code[at])]);
     if code.len() < at + size {
         return 0;
     }
@@ -86,13 +74,13 @@ pub fn known(code: &[u8], at: usize, size: usize) -> Insn
     let next = at + size;
     if b == 0xFE {
         return Insn {
-            op: 0xFE00 + one(rest) as u16,
+            op: 0xFE00 + u16::from(rest[0]),
             operand: 0,
             next,
         };
     }
     Insn {
-        op: b as u16,
+        op: u16::from(b),
         operand: operand(rest, size),
         next,
     }

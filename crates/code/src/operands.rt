@@ -2,7 +2,7 @@
 ghost use Rattle.std.specs.Prelude.{◌≡◌, suc, ◌+◌, ◌≤◌, ◌<◌, length, drop, leb};
 ghost use Rattle.model.specs.Loading.{little};
 
-use crate::little::{little1, little4, little8};
+use crate::little::first;
 
 // Whether an instruction of a size at an offset is there whole.
 pub fn whole(part: &[u8], at: usize, size: usize) -> bool
@@ -18,7 +18,7 @@ pub fn byte_after(part: &[u8], at: usize) -> usize
     ensures { (result ≡ little 1 (drop (suc at) part.now)) × (result < 0x100) }
 {
     let from = at + 1;
-    little1(&part[from..]) as usize
+    first::<1>(&part[from..]) as usize
 }
 
 // The four bytes after it.
@@ -27,7 +27,7 @@ pub fn four_after(part: &[u8], at: usize) -> usize
     ensures { (result ≡ little 4 (drop (suc at) part.now)) × (result < 0x100000000) }
 {
     let from = at + 1;
-    little4(&part[from..]) as usize
+    first::<4>(&part[from..]) as usize
 }
 
 // The eight bytes after it.
@@ -36,5 +36,5 @@ pub fn eight_after(part: &[u8], at: usize) -> u64
     ensures { result ≡ little 8 (drop (suc at) part.now) }
 {
     let from = at + 1;
-    little8(&part[from..])
+    first::<8>(&part[from..])
 }

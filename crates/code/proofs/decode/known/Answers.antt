@@ -1,9 +1,10 @@
 -- `known` meets its contract: an instruction with a length has all its bytes.
 use native.Mathlib.Omega.{arith}
-use mathlib.Core.Path.{refl, ap, ◌∙◌}
+use mathlib.Core.Path.{refl, sym, ap, ◌∙◌}
 use Prim.Native.Nat.{◌-◌}
 use lib.ListN.{length-drop}
 use Rattle.model.specs.Loading.{little}
+use Rattle.code.proofs.Bytes.{one}
 use Rattle.code.proofs.Parts.{to_end, after_one}
 use Rattle.code.proofs.Reading.{inside, within, of_length, two, known_second, known_plain}
 use Rattle.code.proofs.decode.known.Goals as goal
@@ -33,19 +34,14 @@ overflow_add-next c =
     let s = c in
     record { fits = omega (arith, within s.args.code.now s.args.at s.args.size s.requires.size_is s.requires.size_positive) }
 
-pub one-requires : goal.one-requires
-one-requires c =
+pub bounds-rest-0 : goal.bounds-rest-0
+bounds-rest-0 c =
     let s = c in
     simp (to_end, length-drop) (omega (arith, within s.args.code.now s.args.at s.args.size s.requires.size_is s.requires.size_positive, two s.args.code.now s.args.at s.args.size s.requires.size_is s.requires.size_positive c.if-b.true))
 
 pub returns-then-b : goal.returns-then-b
 returns-then-b c = let s = c in
-    record { decode_is = known_second s.args.code.now s.args.at s.args.size s.requires.size_is s.requires.size_positive _ c.if-b.true (c.one.ensures.value ∙ ap (little 1) (after_one s.args.at s.args.code.now)); next_is = refl }
-
-pub overflow_cast-result-2 : goal.overflow_cast-result-2
-overflow_cast-result-2 c =
-    let k = c in
-    record { fits = omega (arith, k.type_inv.code k.args.at) }
+    record { decode_is = known_second s.args.code.now s.args.at s.args.size s.requires.size_is s.requires.size_positive _ c.if-b.true (c.from.ensures ∙ sym (one _) ∙ ap (little 1) (after_one s.args.at s.args.code.now)); next_is = refl }
 
 pub operand-requires : goal.operand-requires
 operand-requires c = let s = c in
@@ -56,4 +52,4 @@ returns c = let k = c in
     let s = k in
     let byte = k.type_inv.code s.args.at in
     let operand = c.operand.ensures ∙ ap (little (s.args.size - 1)) (after_one s.args.at s.args.code.now) in
-    record { decode_is = known_plain s.args.code.now s.args.at s.args.size s.requires.size_is s.requires.size_positive _ (omega (arith, byte)) c.if-b.false operand; next_is = refl }
+    rw c.from-2.ensures (record { decode_is = known_plain s.args.code.now s.args.at s.args.size s.requires.size_is s.requires.size_positive _ (omega (arith, byte)) c.if-b.false operand; next_is = refl })

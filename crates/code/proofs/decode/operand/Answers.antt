@@ -1,32 +1,19 @@
 -- `operand` meets its contract: just its bytes.
-use mathlib.Core.Path.{◌≡◌, sym, ap, ◌∙◌}
+use mathlib.Core.Path.{◌≡◌, refl}
 use mathlib.Core.List.{List}
 use Prim.Native.Nat.{ℕ, ◌-◌}
 use native.Mathlib.Omega.{arith}
 use Rattle.model.specs.Loading.{little}
-use Rattle.code.proofs.Forms.{nine}
+use Rattle.code.specs.Insn.{Length, no_bytes, one_byte, two_bytes, five_bytes, nine_bytes}
 use Rattle.code.proofs.decode.operand.Goals as goal
 
-bytes : (l : List ℕ) (s k r : ℕ) → s ≡ k → r ≡ little (k - 1) l → r ≡ little (s - 1) l
-bytes l s k r e q = q ∙ sym (ap (λ (n : ℕ). little (n - 1) l) e)
-
-pub returns-then-size-lt2 : goal.returns-then-size-lt2
+none : (l : List ℕ) {s : ℕ} → Length s → (s ≡ 2 → ⊥) → (s ≡ 5 → ⊥) → (s ≡ 9 → ⊥) → 0 ≡ little (s - 1) l
 unfolding little
-returns-then-size-lt2 c =
-    let s = c.args.size in
-    let none : s - 1 ≡ 0 = omega (arith, c.if-size-lt2.true) in
-    sym (ap (λ (n : ℕ). little n c.args.rest.now) none)
+none l no_bytes a b d = refl
+none l one_byte a b d = refl
+none l two_bytes a b d = absurd (a refl)
+none l five_bytes a b d = absurd (b refl)
+none l nine_bytes a b d = absurd (d refl)
 
-pub returns-then-size-eq2 : goal.returns-then-size-eq2
-returns-then-size-eq2 c = bytes _ _ 2 _ c.if-size-eq2.true c.one.ensures.value
-
-pub returns-then-size-eq5 : goal.returns-then-size-eq5
-returns-then-size-eq5 c = bytes _ _ 5 _ c.if-size-eq5.true c.four.ensures.value
-
-pub eight-requires : goal.eight-requires
-eight-requires c = omega (arith, nine c.requires.length c.if-size-lt2.false c.if-size-eq2.false c.if-size-eq5.false)
-
-pub returns : goal.returns
-returns c =
-    let s = c in
-    bytes _ _ 9 _ (nine s.requires.length c.if-size-lt2.false c.if-size-eq2.false c.if-size-eq5.false) c.eight.ensures
+pub returns-in_default : goal.returns-in_default
+returns-in_default c = none _ c.requires.length (λ e. omega (arith, e)) (λ e. omega (arith, e)) (λ e. omega (arith, e))

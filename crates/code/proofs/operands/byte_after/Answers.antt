@@ -5,4 +5,4 @@ use Rattle.code.proofs.operands.byte_after.Goals as goal
 
 pub returns : goal.returns
 returns c =
-    (c.little1.ensures.value ∙ ap (little 1) (after_one c.args.at c.args.part.now), c.little1.ensures.below)
+    (c.first.ensures.value ∙ ap (little 1) (after_one c.args.at c.args.part.now), c.first.ensures.below)

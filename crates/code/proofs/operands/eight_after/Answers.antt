@@ -5,4 +5,4 @@ use Rattle.code.proofs.operands.eight_after.Goals as goal
 
 pub returns : goal.returns
 returns c =
-    c.little8.ensures ∙ ap (little 8) (after_one c.args.at c.args.part.now)
+    c.first.ensures.value ∙ ap (little 8) (after_one c.args.at c.args.part.now)

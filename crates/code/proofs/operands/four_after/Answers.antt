@@ -5,4 +5,4 @@ use Rattle.code.proofs.operands.four_after.Goals as goal
 
 pub returns : goal.returns
 returns c =
-    (c.little4.ensures.value ∙ ap (little 4) (after_one c.args.at c.args.part.now), c.little4.ensures.below)
+    (c.first.ensures.value ∙ ap (little 4) (after_one c.args.at c.args.part.now), c.first.ensures.below)
