@@ -1,15 +1,15 @@
 -- The answers of the branches, by the tests that led to them, and what a branch does by its distance.
-use Rattle.std.proofs.Common.{◌≡◌, ℕ, suc, ◌+◌, ◌-◌, ◌<◌, ◌≤◌, Bool, eqb, List, length, get_or, drop, sym, refl, ap, ◌∙◌, arith, le-ltb, lt-ltb, ne_eqb}
+use Rattle.std.proofs.Common.{◌≡◌, ℕ, suc, ◌+◌, ◌-◌, ◌<◌, ◌≤◌, Bool, eqb, List, length, get_or, drop, sym, refl, ap, ◌∙◌, arith, le-ltb, lt-ltb}
 use mathlib.Core.Option.{Option, none, some}
 use Rattle.model.specs.Answer.{Answer, ok, ◌>>=◌, guard, need, pick, or_else, map_option}
 use Rattle.model.specs.Loading.{little}
 use Rattle.model.specs.Operators.{comparison}
-use Rattle.model.specs.Code.{Relation, Jump, target, near, far, instructions, form_of, size_of}
+use Rattle.model.specs.Code.{Relation, Jump, always, iftrue, iffalse, when, target, near, far, instructions, form_of, size_of}
 use Rattle.state.specs.declared.Stay.{Stay}
 use Rattle.state.specs.View.{Work, kind_by}
 use Rattle.state.specs.Work.{Tables, Went, runs, kind_at, bits_at, shown_at, goto, test_w, when_w, jump_w, branch_w, act_w, acts_w}
 use Rattle.state.specs.Meets.{Meets}
-use Rattle.operators.specs.Gives.{relation_by, jump_by, compared}
+use Rattle.operators.specs.Gives.{compared}
 use Rattle.in_frame.proofs.Answers.{stops, goes, none_there, all_there}
 use Rattle.in_frame.proofs.Acting.{acts_cut, acts_near, acts_far}
 
@@ -63,27 +63,26 @@ module _ (len : ℕ) (y : Stay) (c : Work) (target next : ℕ) where
   unfolding branch_w need guard ◌>>=◌
   branch_out j h = stops refl refl (simp (le-ltb _ _ h))
 
-  module _ (n : ℕ) (h : target < len) where
-    branch_jumps : (j : Jump) → branch_w len y c j (some target) next ≡ jump_w y c j target next
+  module _ (j : Jump) (h : target < len) where
+    branch_jumps : branch_w len y c j (some target) next ≡ jump_w y c j target next
     unfolding branch_w need guard ◌>>=◌
-    branch_jumps j = simp (lt-ltb _ _ h)
+    branch_jumps = simp (lt-ltb _ _ h)
 
-    pub branch_always : {o : ℕ} → n ≡ 0 → Meets 0 o (goto c target c.regs.sp) c (branch_w len y c (jump_by n) (some target) next)
-    unfolding jump_by pick jump_w
-    branch_always e = goes (branch_jumps (jump_by n) ∙ rw e)
+    pub branch_always : {o : ℕ} → j ≡ always → Meets 0 o (goto c target c.regs.sp) c (branch_w len y c j (some target) next)
+    unfolding jump_w
+    branch_always e = goes (branch_jumps ∙ rw e)
 
-    pub branch_true : n ≡ 1 → branch_w len y c (jump_by n) (some target) next ≡ test_w y c next target
-    unfolding jump_by pick jump_w
-    branch_true e = branch_jumps (jump_by n) ∙ rw e
+    pub branch_true : j ≡ iftrue → branch_w len y c j (some target) next ≡ test_w y c next target
+    unfolding jump_w
+    branch_true e = branch_jumps ∙ rw e
 
-    pub branch_false : n ≡ 2 → branch_w len y c (jump_by n) (some target) next ≡ test_w y c target next
-    unfolding jump_by pick jump_w
-    branch_false e = branch_jumps (jump_by n) ∙ rw e
+    pub branch_false : j ≡ iffalse → branch_w len y c j (some target) next ≡ test_w y c target next
+    unfolding jump_w
+    branch_false e = branch_jumps ∙ rw e
 
-    pub branch_when : (n ≡ 0 → ⊥) → (n ≡ 1 → ⊥) → (n ≡ 2 → ⊥)
-        → branch_w len y c (jump_by n) (some target) next ≡ when_w y c (relation_by (n - 3)) target next
-    unfolding jump_by pick jump_w
-    branch_when x y z = branch_jumps (jump_by n) ∙ rw (ne_eqb _ _ x, ne_eqb _ _ y, ne_eqb _ _ z)
+    pub branch_when : {r : Relation} → j ≡ when r → branch_w len y c j (some target) next ≡ when_w y c r target next
+    unfolding jump_w
+    branch_when e = branch_jumps ∙ rw e
 
 -- ---- By the distance
 

@@ -1,4 +1,4 @@
-// Branches, by number: 0 br, 1 brtrue, 2 brfalse, from 3 on a comparison. The target must lie in the method's code, taken or not.
+// Branches. The target must lie in the method's code, taken or not.
 ghost use Rattle.std.specs.Prelude.{◌≡◌, ◌<◌, ◌≤◌, length, slice_index};
 ghost use Rattle.std.proofs.Math.Option.{some};
 ghost use Rattle.model.specs.Code.{Form, form_of, instructions};
@@ -10,6 +10,7 @@ ghost use Rattle.state.specs.Steps.{Own, ComesTo};
 
 use crate::operands::led;
 use code::operands::{byte_after, four_after, whole};
+use operators::codes::{Jump, Relation};
 use operators::comparisons::{both, related};
 use state::Stay;
 
@@ -60,7 +61,7 @@ fn when(
     sp: usize,
     cells: &[u64; 2048],
     kinds: &[u8; 2048],
-    relation: u8,
+    relation: Relation,
     target: usize,
     next: usize,
 ) -> Step
@@ -92,7 +93,7 @@ fn branch(
     sp: usize,
     cells: &[u64; 2048],
     kinds: &[u8; 2048],
-    how: u8,
+    how: Jump,
     target: usize,
     next: usize,
 ) -> Step
@@ -108,10 +109,10 @@ fn branch(
         return ends(Ending::BadOperand);
     }
     match how {
-        0 => Step::On { at: target, sp: sp },
-        1 => test(y, at, sp, cells, kinds, next, target),
-        2 => test(y, at, sp, cells, kinds, target, next),
-        _ => when(y, at, sp, cells, kinds, how - 3, target, next),
+        Jump::Always => Step::On { at: target, sp: sp },
+        Jump::IfTrue => test(y, at, sp, cells, kinds, next, target),
+        Jump::IfFalse => test(y, at, sp, cells, kinds, target, next),
+        Jump::When(relation) => when(y, at, sp, cells, kinds, relation, target, next),
     }
 }
 
@@ -123,7 +124,7 @@ pub fn near(
     sp: usize,
     cells: &[u64; 2048],
     kinds: &[u8; 2048],
-    how: u8,
+    how: Jump,
 ) -> Step
     requires stays { Stays y }
     requires topped { Topped y sp }
@@ -151,7 +152,7 @@ pub fn far(
     sp: usize,
     cells: &[u64; 2048],
     kinds: &[u8; 2048],
-    how: u8,
+    how: Jump,
 ) -> Step
     requires stays { Stays y }
     requires topped { Topped y sp }

@@ -5,7 +5,8 @@ use mathlib.Core.Option.{some}
 use Rattle.model.specs.Answer.{pick}
 use Rattle.model.specs.Tables.{int32, null}
 use Rattle.model.specs.Code.{Ins, Jump, plain, nop, pop, dup, ldc, ldarg, ldloc, stloc, Form, bare, near, far, ◌is◌, op, un, const, branches, loads, operators, objects, instructions, form_of}
-use Rattle.operators.specs.Gives.{number_by, whole_by, shift_by, relation_by, binary_by, unary_by, jump_by}
+use Rattle.model.specs.Code as code
+use Rattle.model.specs.Code.{add, sub, mul, div, rem, div_un, rem_un, and, or, xor, add_ovf, mul_ovf, sub_ovf, shl, shr, shr_un, eq, ne, lt, le, gt, ge, lt_un, le_un, gt_un, ge_un, number, whole, shift, neg, not_bits, conv_i4, conv_i8, conv_r8, always, iftrue, iffalse, when}
 
 -- the opcode b is an instruction by itself
 abbrev pub Bare : ℕ → Ins → Type 0
@@ -53,47 +54,47 @@ pop_form = refl
 
 -- ---- The branches, by the form of their distance and from an opcode on
 
-abbrev Branch : (Jump → Form) → ℕ → ℕ → Type 0
-Branch f b how = form_of instructions b ≡ some (f (jump_by how))
+abbrev Branch : (Jump → Form) → ℕ → Jump → Type 0
+Branch f b j = form_of instructions b ≡ some (f j)
 
 abbrev Branches : (Jump → Form) → ℕ → Type 0
 Branches f b =
-    Branch f b 0 × Branch f (b + 1) 2 × Branch f (b + 2) 1 × Branch f (b + 3) 3 × Branch f (b + 4) 8 × Branch f (b + 5) 7 × Branch f (b + 6) 6
-    × Branch f (b + 7) 5 × Branch f (b + 8) 4 × Branch f (b + 9) 12 × Branch f (b + 10) 11 × Branch f (b + 11) 10 × Branch f (b + 12) 9
+    Branch f b always × Branch f (b + 1) iffalse × Branch f (b + 2) iftrue × Branch f (b + 3) (when eq) × Branch f (b + 4) (when ge) × Branch f (b + 5) (when gt) × Branch f (b + 6) (when le)
+    × Branch f (b + 7) (when lt) × Branch f (b + 8) (when ne) × Branch f (b + 9) (when ge_un) × Branch f (b + 10) (when gt_un) × Branch f (b + 11) (when le_un) × Branch f (b + 12) (when lt_un)
 
 pub nears : Branches near 0x2B
-unfolding pick ◌is◌ op un const branches loads operators objects instructions form_of relation_by jump_by
+unfolding pick ◌is◌ op un const branches loads operators objects instructions form_of
 nears = (refl, refl, refl, refl, refl, refl, refl, refl, refl, refl, refl, refl, refl)
 
 pub fars : Branches far 0x38
-unfolding pick ◌is◌ op un const branches loads operators objects instructions form_of relation_by jump_by
+unfolding pick ◌is◌ op un const branches loads operators objects instructions form_of
 fars = (refl, refl, refl, refl, refl, refl, refl, refl, refl, refl, refl, refl, refl)
 
--- ---- The operators, numbered as `binary_by` and `unary_by` have them
+-- ---- The operators
 
--- the opcode b is the operator n
-abbrev pub Binary : ℕ → ℕ → Type 0
-Binary b n = form_of instructions b ≡ some (op (binary_by n))
+-- the opcode b is the operator o
+abbrev pub Binary : ℕ → code.Binary → Type 0
+Binary b o = form_of instructions b ≡ some (op o)
 
-abbrev pub Unary : ℕ → ℕ → Type 0
-Unary b n = form_of instructions b ≡ some (un (unary_by n))
+abbrev pub Unary : ℕ → code.Unary → Type 0
+Unary b o = form_of instructions b ≡ some (un o)
 
 -- add, sub, mul, div, div.un, rem, rem.un
-pub numbers : Binary 0x58 0 × Binary 0x59 1 × Binary 0x5A 2 × Binary 0x5B 3 × Binary 0x5C 5 × Binary 0x5D 4 × Binary 0x5E 6
-unfolding binary_by number_by whole_by shift_by relation_by unary_by pick ◌is◌ op un const branches loads operators objects instructions form_of
+pub numbers : Binary 0x58 (number add) × Binary 0x59 (number sub) × Binary 0x5A (number mul) × Binary 0x5B (number div) × Binary 0x5C (whole div_un) × Binary 0x5D (whole rem) × Binary 0x5E (whole rem_un)
+unfolding pick ◌is◌ op un const branches loads operators objects instructions form_of
 numbers = (refl, refl, refl, refl, refl, refl, refl)
 
 -- and, or, xor, shl, shr, shr.un
-pub bits : Binary 0x5F 7 × Binary 0x60 8 × Binary 0x61 9 × Binary 0x62 13 × Binary 0x63 14 × Binary 0x64 15
-unfolding binary_by number_by whole_by shift_by relation_by unary_by pick ◌is◌ op un const branches loads operators objects instructions form_of
+pub bits : Binary 0x5F (whole and) × Binary 0x60 (whole or) × Binary 0x61 (whole xor) × Binary 0x62 (shift shl) × Binary 0x63 (shift shr) × Binary 0x64 (shift shr_un)
+unfolding pick ◌is◌ op un const branches loads operators objects instructions form_of
 bits = (refl, refl, refl, refl, refl, refl)
 
 -- add.ovf, mul.ovf, sub.ovf
-pub overflows : Binary 0xD6 10 × Binary 0xD8 11 × Binary 0xDA 12
-unfolding binary_by number_by whole_by shift_by relation_by unary_by pick ◌is◌ op un const branches loads operators objects instructions form_of
+pub overflows : Binary 0xD6 (whole add_ovf) × Binary 0xD8 (whole mul_ovf) × Binary 0xDA (whole sub_ovf)
+unfolding pick ◌is◌ op un const branches loads operators objects instructions form_of
 overflows = (refl, refl, refl)
 
 -- neg, not, conv.i4, conv.i8, conv.r8
-pub unaries : Unary 0x65 0 × Unary 0x66 1 × Unary 0x69 2 × Unary 0x6A 3 × Unary 0x6C 4
-unfolding binary_by number_by whole_by shift_by relation_by unary_by pick ◌is◌ op un const branches loads operators objects instructions form_of
+pub unaries : Unary 0x65 neg × Unary 0x66 not_bits × Unary 0x69 conv_i4 × Unary 0x6A conv_i8 × Unary 0x6C conv_r8
+unfolding pick ◌is◌ op un const branches loads operators objects instructions form_of
 unaries = (refl, refl, refl, refl, refl)

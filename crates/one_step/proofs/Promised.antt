@@ -1,5 +1,5 @@
 -- What a step promises, whatever its arm.
-use Prim.Native.Nat.{ℕ, ◌<◌}
+use Prim.Native.Nat.{ℕ}
 use mathlib.Core.Path.{◌≡◌, refl, sym, subst, ◌∙◌}
 use mathlib.Core.Option.{none}
 use mathlib.Core.List.{List}

@@ -3,6 +3,7 @@ use Prim.Native.Nat.{ℕ, ◌+◌, ◌<◌}
 use mathlib.Core.Path.{◌≡◌, refl, subst, ◌∙◌}
 use mathlib.Core.List.{List}
 use lib.ListN.{get_or}
+use Rattle.model.specs.Code as code
 use Rattle.model.specs.Code.{plain, binary, unary, op, un}
 use Rattle.state.specs.declared.Stay.{Stay}
 use Rattle.state.specs.declared.Step.{Step}
@@ -10,7 +11,6 @@ use Rattle.state.specs.View.{Work}
 use Rattle.state.specs.Work.{Tables, with_statics, with_heap, binary_w, unary_w, plain_w, act_w, acts_w}
 use Rattle.state.specs.Meets.{on_stack}
 use Rattle.state.specs.Steps.{Own, ComesTo}
-use Rattle.operators.specs.Gives.{binary_by, unary_by}
 use Rattle.in_frame.specs.Tries.{Reads}
 use Rattle.in_frame.proofs.Answers.{instead}
 use Rattle.in_frame.proofs.Acting.{acts_bare}
@@ -26,24 +26,24 @@ module _ {part cells kinds marks classes heap statics methods variables fields i
     {at sp b k : ℕ}
     (x : Step) (r : Reads at part b) (e : b ≡ k) where
   -- operators
-  pub two_operands : {cells' kinds' : List ℕ} (n : ℕ) → Binary k n
+  pub two_operands : {cells' kinds' : List ℕ} (o : code.Binary) → Binary k o
       → Own y sp x × ((c : Work) → ComesTo x (on_stack c at sp cells' kinds') (on_stack c at sp cells kinds)
-      (binary_w y (on_stack c at sp cells kinds) (binary_by n) (at + 1)))
+      (binary_w y (on_stack c at sp cells kinds) o (at + 1)))
       → Promised part cells kinds marks classes heap statics methods variables fields initialisers ancestors class_count field_count y at sp x cells' kinds' marks heap statics
   unfolding op act_w plain_w
-  two_operands n q w =
+  two_operands o q w =
       carried w.0 (λ P c l.
-      instead (acts_bare P part y (on_member c at sp cells kinds marks classes heap statics) r.inside (r.byte ∙ e) (few r e) (plain (binary (binary_by n))) q)
+      instead (acts_bare P part y (on_member c at sp cells kinds marks classes heap statics) r.inside (r.byte ∙ e) (few r e) (plain (binary o)) q)
       (w.1 (on_member c at sp cells kinds marks classes heap statics)))
 
-  pub one_operand : {cells' kinds' : List ℕ} (n : ℕ) → Unary k n
+  pub one_operand : {cells' kinds' : List ℕ} (o : code.Unary) → Unary k o
       → Own y sp x × ((c : Work) → ComesTo x (on_stack c at sp cells' kinds') (on_stack c at sp cells kinds)
-      (unary_w y (on_stack c at sp cells kinds) (unary_by n) (at + 1)))
+      (unary_w y (on_stack c at sp cells kinds) o (at + 1)))
       → Promised part cells kinds marks classes heap statics methods variables fields initialisers ancestors class_count field_count y at sp x cells' kinds' marks heap statics
   unfolding un act_w plain_w
-  one_operand n q w =
+  one_operand o q w =
       carried w.0 (λ P c l.
-      instead (acts_bare P part y (on_member c at sp cells kinds marks classes heap statics) r.inside (r.byte ∙ e) (few r e) (plain (unary (unary_by n))) q)
+      instead (acts_bare P part y (on_member c at sp cells kinds marks classes heap statics) r.inside (r.byte ∙ e) (few r e) (plain (unary o)) q)
       (w.1 (on_member c at sp cells kinds marks classes heap statics)))
 
   pub comparing : {cells' kinds' : List ℕ}

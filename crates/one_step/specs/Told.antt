@@ -1,5 +1,5 @@
 -- What a step tells.
-use Rattle.std.specs.Prelude.{ℕ, ◌≤◌, ◌<◌, ◌≡◌, true, List, get_or}
+use Rattle.std.specs.Prelude.{ℕ, ◌≤◌, ◌≡◌, true, List, get_or}
 use Rattle.state.specs.declared.Stay.{Stay}
 use Rattle.state.specs.declared.Step.{Step}
 use Rattle.state.specs.View.{Work}

@@ -8,7 +8,7 @@ use lib.ListN.{length, get_or, drop}
 use borrow.Author.Tests.{ne_eqb}
 use Rattle.model.specs.Answer.{Answer, need, ◌>>=◌, pick, map_option}
 use Rattle.model.specs.Loading.{little}
-use Rattle.model.specs.Code.{Form, second, ◌is◌, op, after_fE, form_of, Decoded, decode, size_of}
+use Rattle.model.specs.Code.{Binary, Form, second, ◌is◌, op, after_fE, form_of, Decoded, decode, size_of}
 use Rattle.state.specs.declared.Stay.{Stay}
 use Rattle.state.specs.View.{Work}
 use Rattle.state.specs.Work.{Tables, Went, binary_w, plain_w, act_w, acts_w}
@@ -16,7 +16,6 @@ use Rattle.state.specs.Meets.{Meets}
 use Rattle.code.specs.Insn.{with_operand, meant}
 use Rattle.code.proofs.Forms.{form_FE}
 use Rattle.code.proofs.Decoding.{after_FE}
-use Rattle.operators.specs.Gives.{binary_by}
 use Rattle.in_frame.specs.Tries.{Others}
 use Rattle.in_frame.proofs.Answers.{stops}
 use Rattle.in_frame.proofs.Acting.{acts_cut}
@@ -62,6 +61,6 @@ module _ (P : Tables) (part : List ℕ) (y : Stay) (c : Work) (inside : c.regs.a
     unfolding by need ◌>>=◌ map_option
     second_none n = stops refl refl (acts_by P part y c (after (not_after x n)))
 
-    pub second_does : (k n : ℕ) → After k n → x ≡ k → acts_w P part y c ≡ binary_w y c (binary_by n) (c.regs.at + 2)
+    pub second_does : (k : ℕ) (o : Binary) → After k o → x ≡ k → acts_w P part y c ≡ binary_w y c o (c.regs.at + 2)
     unfolding by need ◌>>=◌ map_option meant with_operand op act_w plain_w
-    second_does k n f z = acts_by P part y c (after (ap (form_of after_fE) z ∙ f))
+    second_does k o f z = acts_by P part y c (after (ap (form_of after_fE) z ∙ f))

@@ -6,6 +6,7 @@ ghost use Rattle.state.specs.Meets.{Stays, Topped, Few, on_stack};
 ghost use Rattle.state.specs.Steps.{Own, ComesTo};
 
 use code::operands::{byte_after, whole};
+use operators::codes::{Binary, Relation};
 use operators::stacked::binary;
 use state::ending::{Ending, ends};
 use state::{Stay, Step};
@@ -34,11 +35,27 @@ pub fn compared(
     }
     let next = at + 2;
     match byte_after(part, at) {
-        1 => binary(y, at, sp, cells, kinds, 16, next),
-        2 => binary(y, at, sp, cells, kinds, 20, next),
-        3 => binary(y, at, sp, cells, kinds, 24, next),
-        4 => binary(y, at, sp, cells, kinds, 18, next),
-        5 => binary(y, at, sp, cells, kinds, 22, next),
+        1 => binary(y, at, sp, cells, kinds, Binary::Compare(Relation::Eq), next),
+        2 => binary(y, at, sp, cells, kinds, Binary::Compare(Relation::Gt), next),
+        3 => binary(
+            y,
+            at,
+            sp,
+            cells,
+            kinds,
+            Binary::Compare(Relation::GtUn),
+            next,
+        ),
+        4 => binary(y, at, sp, cells, kinds, Binary::Compare(Relation::Lt), next),
+        5 => binary(
+            y,
+            at,
+            sp,
+            cells,
+            kinds,
+            Binary::Compare(Relation::LtUn),
+            next,
+        ),
         _ => ends(Ending::Undecodable),
     }
 }

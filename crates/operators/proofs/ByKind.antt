@@ -1,24 +1,23 @@
 -- What the operators give, by the kinds of their operands.
-use Prim.Native.Nat.{ℕ, zero, suc, ◌+◌, ◌-◌, ◌*◌, ◌^◌, ◌≤◌, ◌<◌}
+use Prim.Native.Nat.{ℕ, zero, suc, ◌+◌, ◌*◌, ◌^◌, ◌≤◌, ◌<◌}
 use mathlib.Core.Path.{◌≡◌, refl, sym, ap, ◌∙◌}
 use mathlib.Core.Bool.{Bool, true, false}
+use mathlib.Core.Logic.{◌⊎◌, inl, inr}
 use mathlib.Core.Option.{Option, none, some}
 use native.Mathlib.Omega.{arith}
 use native.Mathlib.Nat.{mod-eq_of_lt}
 use lib.Dec.{eqb}
-use lib.IntN.{neg_ℤ}
-use lib.Ieee as Ieee
-use lib.Ieee.{binary64}
 use mir.Syntax.{Width, w32, w64}
-use mir.Val.{bits, to_z, of_z}
 use borrow.Author.Tests.{eqb-true, ne_eqb}
 use Rattle.model.specs.Answer.{Answer, bad, ok, ◌>>=◌, need, pick, only_if, map_option}
 use Rattle.model.specs.Tables.{int32}
-use Rattle.model.specs.Code.{Number, Whole, Shift, Relation, number, whole, shift, compare, Unary, neg, not_bits, conv_i4, conv_i8, conv_r8}
-use Rattle.model.specs.Operators.{kind, kind_number, same, Meaning, meaning, number_of, integers_of, binary_of, integer, whole_of, shifted, real, wrap, double, stored, flag, relates, relates_f, relates_ref, relation_of, comparison, conversion, neg_of, not_of, conv4_of, conv8_of, conv_fOf, unary_of}
+use Rattle.model.specs.Code.{Number, Whole, Shift, Relation, eq, ne, number, whole, shift, compare, Unary, neg, not_bits, conv_i4, conv_i8, conv_r8}
+use Rattle.model.specs.Operators.{kind, kind_number, same, Meaning, meaning, number_of, integers_of, binary_of, integer, whole_of, shifted, real, double, flag, relates, relates_f, relates_ref, relation_of, comparison, neg_of, not_of, conv4_of, conv8_of, conv_fOf, unary_of}
 use Rattle.state.specs.View.{kind_by, kind_of_type, shown}
 use Rattle.integers.specs.Cells.{width_of, low}
-use Rattle.operators.specs.Gives.{of_kind, binary_gives, unary_gives, unary_by, relation_by, compared}
+use Rattle.operators.specs.declared.codes.Relation.{Relation as RelationCode}
+use Rattle.operators.specs.declared.codes.Relation.TheVariants.{Eq, Ne, Lt, Le, Gt, Ge, LtUn, LeUn, GtUn, GeUn}
+use Rattle.operators.specs.Gives.{of_kind, binary_gives, unary_gives, relation_by, compared}
 
 -- ---- Kinds and the bits that count
 
@@ -34,7 +33,7 @@ same_kind : (k l : ℕ) → k ≤ 3 → l ≤ 3 → same (kind_by k) (kind_by l)
 unfolding same
 same_kind k l h i = simp (number_of_lem k h, number_of_lem l i)
 
-low_all : {a : ℕ} → a < 2 ^ 64 → low w64 a ≡ a
+pub low_all : {a : ℕ} → a < 2 ^ 64 → low w64 a ≡ a
 low_all h = mod-eq_of_lt h
 
 -- a pair of bytes has one sum
@@ -144,20 +143,18 @@ module _ (k l a b : ℕ) (hk : k ≤ 3) (hl : l ≤ 3) where
 
 -- ---- Comparisons
 
-picked : (x y : Relation) (t : Bool) → relates_ref x ≡ none → relates_ref y ≡ none → relates_ref (pick t x y) ≡ none
-unfolding pick
-picked x y true h i = h
-picked x y false h i = i
-
-second : (x y : Relation) → pick false x y ≡ y
-unfolding pick
-second x y = refl
-
-ordered : (n : ℕ) → 1 < n → relates_ref (relation_by n) ≡ none
-unfolding relation_by relates_ref
-ordered n h =
-    simp (ne_eqb n 0 (λ z. omega arith), ne_eqb n 1 (λ z. omega arith), second)
-    (picked _ _ (eqb n 2) refl (picked _ _ (eqb n 3) refl (picked _ _ (eqb n 4) refl (picked _ _ (eqb n 5) refl (picked _ _ (eqb n 6) refl (picked _ _ (eqb n 7) refl (picked _ _ (eqb n 8) refl refl)))))))
+pub ordered : (r : RelationCode) → (r ≡ Eq → ⊥) → (r ≡ Ne → ⊥) → relates_ref (relation_by r) ≡ none
+unfolding relates_ref
+ordered Eq n m = absurd (n refl)
+ordered Ne n m = absurd (m refl)
+ordered Lt n m = refl
+ordered Le n m = refl
+ordered Gt n m = refl
+ordered Ge n m = refl
+ordered LtUn n m = refl
+ordered LeUn n m = refl
+ordered GtUn n m = refl
+ordered GeUn n m = refl
 
 module _ (k l a b : ℕ) (hk : k ≤ 3) (hl : l ≤ 3) where
   pub compared_mixed : (r : Relation) → (k ≡ l → ⊥) → none ≡ compared r k l a b
@@ -173,15 +170,14 @@ module _ (k l a b : ℕ) (hk : k ≤ 3) (hl : l ≤ 3) where
     unfolding compared comparison only_if map_option same kind_number kind_by relation_of shown pick
     compared_wide r z ha hb q = rw (← e, z, q, low_all ha, low_all hb)
 
-    pub compared_order : (n : ℕ) → k ≡ 0 → 1 < n → none ≡ compared (relation_by n) k l a b
+    pub compared_order : (r : Relation) → k ≡ 0 → relates_ref r ≡ none → none ≡ compared r k l a b
     unfolding compared comparison only_if map_option same kind_number kind_by relation_of
-    compared_order n z h = rw (← e, z, ordered n h)
+    compared_order r z h = rw (← e, z, h)
 
-    pub compared_reference : (n : ℕ) {t : Bool} → k ≡ 0 → n ≤ 1 → a < 2 ^ 64 → b < 2 ^ 64 → t ≡ relates w64 (relation_by n) (low w64 a) (low w64 b) → some t ≡ compared (relation_by n) k l a b
-    unfolding compared comparison only_if map_option same kind_number kind_by relation_of relates_ref relates relation_by shown pick
-    compared_reference zero z h ha hb q = rw (← e, z, q, low_all ha, low_all hb)
-    compared_reference (suc zero) z h ha hb q = rw (← e, z, q, low_all ha, low_all hb)
-    compared_reference (suc (suc n)) z h ha hb q = absurd (omega arith)
+    pub compared_reference : (r : Relation) {t : Bool} → (r ≡ eq) ⊎ (r ≡ ne) → k ≡ 0 → a < 2 ^ 64 → b < 2 ^ 64 → t ≡ relates w64 r (low w64 a) (low w64 b) → some t ≡ compared r k l a b
+    unfolding compared comparison only_if map_option same kind_number kind_by relation_of relates_ref relates shown pick
+    compared_reference r (inl i) z ha hb q = rw (← e, z, q, i, low_all ha, low_all hb)
+    compared_reference r (inr i) z ha hb q = rw (← e, z, q, i, low_all ha, low_all hb)
 
 pub compared_narrow : (r : Relation) (k l a b : ℕ) {t : Bool} → k ≡ 1 → l ≡ 1 → t ≡ relates w32 r (low w32 a) (low w32 b) → some t ≡ compared r k l a b
 unfolding compared comparison only_if map_option same kind_number kind_by relation_of shown pick
@@ -209,79 +205,10 @@ module _ (r : Relation) (k l a b : ℕ) where
 
 -- ---- One operand
 
-module _ (a : ℕ) (ha : a < 2 ^ 64) where
-  pub neg_wide : (k : ℕ) → k ≡ 2 → {r : ℕ} → r ≡ wrap w64 (neg_ℤ (to_z w64 (low w64 a))) → ok (k, r) ≡ unary_gives neg k a
-  unfolding unary_gives unary_of neg_of conversion need ◌>>=◌ kind_by kind_of_type kind_number kind shown pick
-  neg_wide k e q = rw (e, q, low_all ha)
-
-  pub not_wide : (k : ℕ) → k ≡ 2 → {r : ℕ} → r ≡ 2 ^ bits w64 - suc (low w64 a) → ok (k, r) ≡ unary_gives not_bits k a
-  unfolding unary_gives unary_of not_of conversion need ◌>>=◌ kind_by kind_of_type kind_number kind shown pick
-  not_wide k e q = rw (e, q, low_all ha)
-
-module _ (a : ℕ) where
-  pub neg_bits : (k : ℕ) → 0 < k → k < 3 → (k ≡ 2 → ⊥) → {r : ℕ} → r ≡ wrap w32 (neg_ℤ (to_z w32 (low w32 a))) → ok (k, r) ≡ unary_gives neg k a
-  unfolding unary_gives unary_of neg_of conversion need ◌>>=◌ kind_by kind_of_type kind_number kind shown pick
-  neg_bits zero h i n q = absurd (omega arith)
-  neg_bits (suc zero) h i n q = rw q
-  neg_bits (suc (suc k)) h i n q = absurd (n (omega arith))
-
-  pub not_gives : (k : ℕ) → 0 < k → k < 3 → (k ≡ 2 → ⊥) → {r : ℕ} → r ≡ 2 ^ bits w32 - suc (low w32 a) → ok (k, r) ≡ unary_gives not_bits k a
-  unfolding unary_gives unary_of not_of conversion need ◌>>=◌ kind_by kind_of_type kind_number kind shown pick
-  not_gives zero h i n q = absurd (omega arith)
-  not_gives (suc zero) h i n q = rw q
-  not_gives (suc (suc k)) h i n q = absurd (n (omega arith))
-
-  pub conv4_bits : (k : ℕ) → 0 < k → k < 3 → {r : ℕ} → r ≡ low w32 a → ok (1, r) ≡ unary_gives conv_i4 k a
-  unfolding unary_gives unary_of conv4_of conversion need ◌>>=◌ kind_by kind_of_type kind_number kind shown pick
-  conv4_bits zero h i q = absurd (omega arith)
-  conv4_bits (suc zero) h i q = rw q
-  conv4_bits (suc (suc zero)) h i q = rw q
-  conv4_bits (suc (suc (suc k))) h i q = absurd (omega arith)
-
-  pub conv8_wide : (k : ℕ) → k ≡ 2 → ok (2, a) ≡ unary_gives conv_i8 k a
-  unfolding unary_gives unary_of conv8_of conversion need ◌>>=◌ kind_by kind_of_type kind_number kind shown pick
-  conv8_wide k e = rw e
-
-  pub conv8_bits : (k : ℕ) → 0 < k → k < 3 → (k ≡ 2 → ⊥) → {r : ℕ} → r ≡ of_z w64 (to_z w32 (low w32 a)) → ok (2, r) ≡ unary_gives conv_i8 k a
-  unfolding unary_gives unary_of conv8_of conversion need ◌>>=◌ kind_by kind_of_type kind_number kind shown pick
-  conv8_bits zero h i n q = absurd (omega arith)
-  conv8_bits (suc zero) h i n q = rw q
-  conv8_bits (suc (suc k)) h i n q = absurd (n (omega arith))
-
-  pub conv_f_wide : (k : ℕ) → k ≡ 2 → bad 45 ≡ unary_gives conv_r8 k a
-  unfolding unary_gives unary_of conv_fOf need ◌>>=◌ kind_by
-  conv_f_wide k e = rw e
-
-  pub conv_f_bits : (k : ℕ) → 0 < k → k < 3 → (k ≡ 2 → ⊥) → {r : ℕ} → r ≡ stored (Ieee.of_int binary64 (to_z w32 (low w32 a))) → ok (3, r) ≡ unary_gives conv_r8 k a
-  unfolding unary_gives unary_of conv_fOf conversion need ◌>>=◌ kind_by kind_of_type kind_number kind shown pick
-  conv_f_bits zero h i n q = absurd (omega arith)
-  conv_f_bits (suc zero) h i n q = rw q
-  conv_f_bits (suc (suc k)) h i n q = absurd (n (omega arith))
-
-  by_reference : (o : Unary) → bad 45 ≡ unary_gives o 0 a
-  unfolding unary_gives unary_of neg_of not_of conv4_of conv8_of conv_fOf need ◌>>=◌ kind_by
-  by_reference neg = refl
-  by_reference not_bits = refl
-  by_reference conv_i4 = refl
-  by_reference conv_i8 = refl
-  by_reference conv_r8 = refl
-
-  pub unary_reference : (n k : ℕ) → k ≡ 0 → bad 45 ≡ unary_gives (unary_by n) k a
-  unary_reference n k e = rw e (by_reference (unary_by n))
-
-  module _ (k : ℕ) (e : k ≡ 3) where
-    pub neg_real : (n : ℕ) → n ≡ 0 → {r : ℕ} → r ≡ stored (Ieee.neg (double a)) → ok (3, r) ≡ unary_gives (unary_by n) k a
-    unfolding unary_by unary_gives unary_of neg_of conversion need ◌>>=◌ kind_by kind_of_type kind_number kind shown pick
-    neg_real n z q = rw (e, z, q)
-
-    pub conv_f_real : (n : ℕ) → 3 < n → ok (3, a) ≡ unary_gives (unary_by n) k a
-    unfolding unary_by unary_gives unary_of conv_fOf conversion need ◌>>=◌ kind_by kind_of_type kind_number kind shown pick
-    conv_f_real n h = rw (e, ne_eqb n 0 (λ z. omega arith), ne_eqb n 1 (λ z. omega arith), ne_eqb n 2 (λ z. omega arith), ne_eqb n 3 (λ z. omega arith))
-
-    pub no_real_form : (n : ℕ) → (n ≡ 0 → ⊥) → n ≤ 3 → bad 45 ≡ unary_gives (unary_by n) k a
-    unfolding unary_by unary_gives unary_of not_of conv4_of conv8_of need ◌>>=◌ kind_by pick
-    no_real_form zero z h = absurd (z refl)
-    no_real_form (suc zero) z h = rw e
-    no_real_form (suc (suc zero)) z h = rw e
-    no_real_form (suc (suc (suc zero))) z h = rw e
-    no_real_form (suc (suc (suc (suc n)))) z h = absurd (omega arith)
+pub by_reference : (o : Unary) (a : ℕ) → bad 45 ≡ unary_gives o 0 a
+unfolding unary_gives unary_of neg_of not_of conv4_of conv8_of conv_fOf need ◌>>=◌ kind_by
+by_reference neg a = refl
+by_reference not_bits a = refl
+by_reference conv_i4 a = refl
+by_reference conv_i8 a = refl
+by_reference conv_r8 a = refl

@@ -1,61 +1,85 @@
--- What the operators give, by number: a kind and bits, or the number that the run ends with.
-use Rattle.std.specs.Prelude.{ℕ, ◌-◌, Bool, ltb, eqb}
+-- What the operators give: a kind and bits, or the number that the run ends with.
+use Rattle.std.specs.Prelude.{ℕ, Bool}
 use Rattle.std.specs.Prelude as Rust
 use Rattle.std.specs.Prelude.{Result, Ok, Err, Some, None}
 use Rattle.std.proofs.Math.Option.{Option, none, some}
-use Rattle.model.specs.Answer.{Answer, bad, ok, ◌>>=◌, need, pick, map_option}
+use Rattle.model.specs.Answer.{Answer, bad, ok, ◌>>=◌, need, map_option}
 use Rattle.model.specs.Code.{Number, add, sub, mul, div, Whole, rem, div_un, rem_un, and, or, xor, add_ovf, mul_ovf, sub_ovf, Shift, shl, shr, shr_un, Relation, eq, ne, lt, le, gt, ge, lt_un, le_un, gt_un, ge_un, Binary, number, whole, shift, compare, Unary, neg, not_bits, conv_i4, conv_i8, conv_r8, Jump, always, iftrue, iffalse, when}
 use Rattle.model.specs.Operators.{binary_of, unary_of, comparison}
 use Rattle.state.specs.View.{kind_by, kind_of_type, shown}
 use Rattle.integers.specs.Answers.{number_of}
+use Rattle.operators.specs.declared.codes.Number.{Number as NumberCode}
+use Rattle.operators.specs.declared.codes.Number.TheVariants.{Add, Sub, Mul, Div}
+use Rattle.operators.specs.declared.codes.Whole.{Whole as WholeCode}
+use Rattle.operators.specs.declared.codes.Whole.TheVariants.{Rem, DivUn, RemUn, And, Or, Xor, AddOvf, MulOvf, SubOvf}
+use Rattle.operators.specs.declared.codes.Shift.{Shift as ShiftCode}
+use Rattle.operators.specs.declared.codes.Shift.TheVariants.{Shl, Shr, ShrUn}
+use Rattle.operators.specs.declared.codes.Relation.{Relation as RelationCode}
+use Rattle.operators.specs.declared.codes.Relation.TheVariants.{Eq, Ne, Lt, Le, Gt, Ge, LtUn, LeUn, GtUn, GeUn}
+use Rattle.operators.specs.declared.codes.Binary.{Binary as BinaryCode}
+use Rattle.operators.specs.declared.codes.Binary.TheVariants.{Number as OfNumber, Whole as OfWhole, Shift as OfShift, Compare}
+use Rattle.operators.specs.declared.codes.Unary.{Unary as UnaryCode}
+use Rattle.operators.specs.declared.codes.Unary.TheVariants.{Neg, Not, ConvI4, ConvI8, ConvR8}
+use Rattle.operators.specs.declared.codes.Jump.{Jump as JumpCode}
+use Rattle.operators.specs.declared.codes.Jump.TheVariants.{Always, IfTrue, IfFalse, When}
 use Rattle.operators.specs.declared.operators.Cell.{Cell}
 use Rattle.operators.specs.declared.operators.Ends.{Ends}
 use Rattle.operators.specs.declared.operators.Ends.TheVariants.{Integer, WrongType}
 
--- ---- Operators by number
+-- ---- Operators by name
 
-unfoldable pub number_by : ℕ → Number
-number_by n = pick (eqb n 0) add (pick (eqb n 1) sub (pick (eqb n 2) mul div))
+abbrev pub number_by : NumberCode → Number
+number_by Add = add
+number_by Sub = sub
+number_by Mul = mul
+number_by Div = div
 
-unfoldable pub whole_by : ℕ → Whole
-whole_by n =
-    pick (eqb n 0) rem
-    (pick (eqb n 1) div_un
-    (pick (eqb n 2) rem_un
-    (pick (eqb n 3) and
-    (pick (eqb n 4) or
-    (pick (eqb n 5) xor
-    (pick (eqb n 6) add_ovf
-    (pick (eqb n 7) mul_ovf sub_ovf)))))))
+abbrev pub whole_by : WholeCode → Whole
+whole_by Rem = rem
+whole_by DivUn = div_un
+whole_by RemUn = rem_un
+whole_by And = and
+whole_by Or = or
+whole_by Xor = xor
+whole_by AddOvf = add_ovf
+whole_by MulOvf = mul_ovf
+whole_by SubOvf = sub_ovf
 
-unfoldable pub shift_by : ℕ → Shift
-shift_by n = pick (eqb n 0) shl (pick (eqb n 1) shr shr_un)
+abbrev pub shift_by : ShiftCode → Shift
+shift_by Shl = shl
+shift_by Shr = shr
+shift_by ShrUn = shr_un
 
-unfoldable pub relation_by : ℕ → Relation
-relation_by n =
-    pick (eqb n 0) eq
-    (pick (eqb n 1) ne
-    (pick (eqb n 2) lt
-    (pick (eqb n 3) le
-    (pick (eqb n 4) gt
-    (pick (eqb n 5) ge
-    (pick (eqb n 6) lt_un
-    (pick (eqb n 7) le_un
-    (pick (eqb n 8) gt_un ge_un))))))))
+abbrev pub relation_by : RelationCode → Relation
+relation_by Eq = eq
+relation_by Ne = ne
+relation_by Lt = lt
+relation_by Le = le
+relation_by Gt = gt
+relation_by Ge = ge
+relation_by LtUn = lt_un
+relation_by LeUn = le_un
+relation_by GtUn = gt_un
+relation_by GeUn = ge_un
 
-unfoldable pub unary_by : ℕ → Unary
-unary_by n = pick (eqb n 0) neg (pick (eqb n 1) not_bits (pick (eqb n 2) conv_i4 (pick (eqb n 3) conv_i8 conv_r8)))
+abbrev pub unary_by : UnaryCode → Unary
+unary_by Neg = neg
+unary_by Not = not_bits
+unary_by ConvI4 = conv_i4
+unary_by ConvI8 = conv_i8
+unary_by ConvR8 = conv_r8
 
--- 0 to 3 numbers, 4 to 12 whole numbers, 13 to 15 shifts, 16 to 25 comparisons
-unfoldable pub binary_by : ℕ → Binary
-binary_by n =
-    pick (ltb n 4) (number (number_by n))
-    (pick (ltb n 13) (whole (whole_by (n - 4)))
-    (pick (ltb n 16) (shift (shift_by (n - 13))) (compare (relation_by (n - 16)))))
+abbrev pub binary_by : BinaryCode → Binary
+binary_by (OfNumber o) = number (number_by o)
+binary_by (OfWhole o) = whole (whole_by o)
+binary_by (OfShift o) = shift (shift_by o)
+binary_by (Compare r) = compare (relation_by r)
 
--- 0 br, 1 brtrue, 2 brfalse, from 3 on a comparison
-unfoldable pub jump_by : ℕ → Jump
-jump_by n = pick (eqb n 0) always (pick (eqb n 1) iftrue (pick (eqb n 2) iffalse (when (relation_by (n - 3)))))
+abbrev pub jump_by : JumpCode → Jump
+jump_by Always = always
+jump_by IfTrue = iftrue
+jump_by IfFalse = iffalse
+jump_by (When r) = when (relation_by r)
 
 -- ---- What an operator gives
 

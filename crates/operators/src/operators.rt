@@ -8,6 +8,7 @@ ghost use Rattle.integers.specs.Answers.{answer};
 ghost use Rattle.operators.specs.declared.operators.Ends.TheVariants.{Integer};
 ghost use Rattle.operators.specs.Gives.{number_by, whole_by, shift_by, relation_by, binary_by, unary_by, ends_with, given, of_kind, binary_gives, unary_gives};
 
+use crate::codes::{Binary, Number, Relation, Shift, Unary, Whole};
 use crate::comparisons::{
     BELOW_REALS, TWO_NARROW, TWO_REALS, TWO_WIDE, WIDE_AND_NARROW, both, related,
 };
@@ -63,29 +64,29 @@ fn tagged(kind: u8, bits: Result<u64, integers::Ends>) -> Result<Cell, Ends>
 
 // ---- add, sub, mul, div
 
-fn number_bits<I: Integer>(op: u8, a: u64, b: u64) -> Result<u64, integers::Ends>
+fn number_bits<I: Integer>(op: Number, a: u64, b: u64) -> Result<u64, integers::Ends>
     ensures { answer result ≡ integer I.width (number_by op) (low I.width a) (low I.width b) }
 {
     match op {
-        0 => Ok(integers::add::<I>(a, b)),
-        1 => Ok(integers::sub::<I>(a, b)),
-        2 => Ok(integers::mul::<I>(a, b)),
-        _ => integers::div::<I>(a, b),
+        Number::Add => Ok(integers::add::<I>(a, b)),
+        Number::Sub => Ok(integers::sub::<I>(a, b)),
+        Number::Mul => Ok(integers::mul::<I>(a, b)),
+        Number::Div => integers::div::<I>(a, b),
     }
 }
 
-fn number_real(op: u8, a: u64, b: u64) -> u64
+fn number_real(op: Number, a: u64, b: u64) -> u64
     ensures { result ≡ real (number_by op) a b }
 {
     match op {
-        0 => reals::fadd(a, b),
-        1 => reals::fsub(a, b),
-        2 => reals::fmul(a, b),
-        _ => reals::fdiv(a, b),
+        Number::Add => reals::fadd(a, b),
+        Number::Sub => reals::fsub(a, b),
+        Number::Mul => reals::fmul(a, b),
+        Number::Div => reals::fdiv(a, b),
     }
 }
 
-fn number(op: u8, k: u8, l: u8, a: u64, b: u64) -> Result<Cell, Ends>
+fn number(op: Number, k: u8, l: u8, a: u64, b: u64) -> Result<Cell, Ends>
     ensures { k ≤ 3 → l ≤ 3 → given result ≡ binary_gives (number (number_by op)) k l a b }
 {
     let pair = both(k, l);
@@ -109,23 +110,23 @@ fn number(op: u8, k: u8, l: u8, a: u64, b: u64) -> Result<Cell, Ends>
 
 // ---- rem, div.un, rem.un, and, or, xor, add.ovf, mul.ovf, sub.ovf
 
-fn whole_bits<I: Integer>(op: u8, a: u64, b: u64) -> Result<u64, integers::Ends>
+fn whole_bits<I: Integer>(op: Whole, a: u64, b: u64) -> Result<u64, integers::Ends>
     ensures { answer result ≡ whole_of I.width (whole_by op) (low I.width a) (low I.width b) }
 {
     match op {
-        0 => integers::rem::<I>(a, b),
-        1 => integers::div_un::<I>(a, b),
-        2 => integers::rem_un::<I>(a, b),
-        3 => Ok(integers::bit_and::<I>(a, b)),
-        4 => Ok(integers::bit_or::<I>(a, b)),
-        5 => Ok(integers::bit_xor::<I>(a, b)),
-        6 => integers::add_ovf::<I>(a, b),
-        7 => integers::mul_ovf::<I>(a, b),
-        _ => integers::sub_ovf::<I>(a, b),
+        Whole::Rem => integers::rem::<I>(a, b),
+        Whole::DivUn => integers::div_un::<I>(a, b),
+        Whole::RemUn => integers::rem_un::<I>(a, b),
+        Whole::And => Ok(integers::bit_and::<I>(a, b)),
+        Whole::Or => Ok(integers::bit_or::<I>(a, b)),
+        Whole::Xor => Ok(integers::bit_xor::<I>(a, b)),
+        Whole::AddOvf => integers::add_ovf::<I>(a, b),
+        Whole::MulOvf => integers::mul_ovf::<I>(a, b),
+        Whole::SubOvf => integers::sub_ovf::<I>(a, b),
     }
 }
 
-fn whole(op: u8, k: u8, l: u8, a: u64, b: u64) -> Result<Cell, Ends>
+fn whole(op: Whole, k: u8, l: u8, a: u64, b: u64) -> Result<Cell, Ends>
     ensures { k ≤ 3 → l ≤ 3 → given result ≡ binary_gives (whole (whole_by op)) k l a b }
 {
     let pair = both(k, l);
@@ -140,17 +141,17 @@ fn whole(op: u8, k: u8, l: u8, a: u64, b: u64) -> Result<Cell, Ends>
 
 // ---- shl, shr, shr.un: by an int32
 
-fn shift_bits<I: Integer>(op: u8, a: u64, n: u64) -> u64
+fn shift_bits<I: Integer>(op: Shift, a: u64, n: u64) -> u64
     ensures { result ≡ shifted I.width (shift_by op) (low I.width a) (low w32 n) }
 {
     match op {
-        0 => integers::shl::<I>(a, n),
-        1 => integers::shr::<I>(a, n),
-        _ => integers::shr_un::<I>(a, n),
+        Shift::Shl => integers::shl::<I>(a, n),
+        Shift::Shr => integers::shr::<I>(a, n),
+        Shift::ShrUn => integers::shr_un::<I>(a, n),
     }
 }
 
-fn shift(op: u8, k: u8, l: u8, a: u64, n: u64) -> Result<Cell, Ends>
+fn shift(op: Shift, k: u8, l: u8, a: u64, n: u64) -> Result<Cell, Ends>
     ensures { k ≤ 3 → l ≤ 3 → given result ≡ binary_gives (shift (shift_by op)) k l a n }
 {
     let pair = both(k, l);
@@ -171,7 +172,7 @@ fn shift(op: u8, k: u8, l: u8, a: u64, n: u64) -> Result<Cell, Ends>
 
 // ---- ceq, cgt, clt and the like: 1 or 0
 
-fn compare(relation: u8, k: u8, l: u8, a: u64, b: u64) -> Result<Cell, Ends>
+fn compare(relation: Relation, k: u8, l: u8, a: u64, b: u64) -> Result<Cell, Ends>
     ensures { k ≤ 3 → l ≤ 3 → given result ≡ binary_gives (compare (relation_by relation)) k l a b }
 {
     match related(relation, both(k, l), a, b) {
@@ -185,100 +186,63 @@ fn compare(relation: u8, k: u8, l: u8, a: u64, b: u64) -> Result<Cell, Ends>
 
 // ---- Two operands
 
-pub fn operated(op: u8, k: u8, l: u8, a: u64, b: u64) -> Result<Cell, Ends>
+pub fn operated(op: Binary, k: u8, l: u8, a: u64, b: u64) -> Result<Cell, Ends>
     ensures { k ≤ 3 → l ≤ 3 → given result ≡ binary_gives (binary_by op) k l a b }
 {
-    if op < 4 {
-        return number(op, k, l, a, b);
-    }
-    if op < 13 {
-        return whole(op - 4, k, l, a, b);
-    }
-    if op < 16 {
-        return shift(op - 13, k, l, a, b);
-    }
-    compare(op - 16, k, l, a, b)
-}
-
-// ---- One operand: 0 neg, 1 not, 2 conv.i4, 3 conv.i8, 4 conv.r8
-
-fn converted_bits(op: u8, k: u8, a: u64) -> Result<Cell, Ends>
-    requires { (0 < k) × (k < 3) }
-    ensures { given result ≡ unary_gives (unary_by op) k a }
-{
     match op {
-        0 => {
-            if k == INT64 {
-                return Ok(Cell {
-                    kind: k,
-                    bits: integers::neg::<i64>(a),
-                });
-            }
-            Ok(Cell {
-                kind: k,
-                bits: integers::neg::<i32>(a),
-            })
-        }
-        1 => {
-            if k == INT64 {
-                return Ok(Cell {
-                    kind: k,
-                    bits: integers::complement::<i64>(a),
-                });
-            }
-            Ok(Cell {
-                kind: k,
-                bits: integers::complement::<i32>(a),
-            })
-        }
-        2 => Ok(Cell {
-            kind: INT32,
-            bits: integers::conv_i4(a),
-        }),
-        3 => {
-            if k == INT64 {
-                return Ok(Cell {
-                    kind: INT64,
-                    bits: a,
-                });
-            }
-            Ok(Cell {
-                kind: INT64,
-                bits: integers::conv_i8(a),
-            })
-        }
-        _ => {
-            if k == INT64 {
-                return Err(Ends::WrongType);
-            }
-            Ok(Cell {
-                kind: REAL,
-                bits: reals::conv_r8(a),
-            })
-        }
+        Binary::Number(op) => number(op, k, l, a, b),
+        Binary::Whole(op) => whole(op, k, l, a, b),
+        Binary::Shift(op) => shift(op, k, l, a, b),
+        Binary::Compare(relation) => compare(relation, k, l, a, b),
     }
 }
 
-pub fn converted(op: u8, k: u8, a: u64) -> Result<Cell, Ends>
+// ---- One operand
+
+fn of_int32(op: Unary, a: u64) -> Result<Cell, Ends>
+    ensures { given result ≡ unary_gives (unary_by op) 1 a }
+{
+    let (kind, bits) = match op {
+        Unary::Neg => (INT32, integers::neg::<i32>(a)),
+        Unary::Not => (INT32, integers::complement::<i32>(a)),
+        Unary::ConvI4 => (INT32, integers::conv_i4(a)),
+        Unary::ConvI8 => (INT64, integers::conv_i8(a)),
+        Unary::ConvR8 => (REAL, reals::conv_r8(a)),
+    };
+    Ok(Cell { kind, bits })
+}
+
+fn of_int64(op: Unary, a: u64) -> Result<Cell, Ends>
+    ensures { given result ≡ unary_gives (unary_by op) 2 a }
+{
+    let (kind, bits) = match op {
+        Unary::Neg => (INT64, integers::neg::<i64>(a)),
+        Unary::Not => (INT64, integers::complement::<i64>(a)),
+        Unary::ConvI4 => (INT32, integers::conv_i4(a)),
+        Unary::ConvI8 => (INT64, a),
+        Unary::ConvR8 => return Err(Ends::WrongType),
+    };
+    Ok(Cell { kind, bits })
+}
+
+fn of_real(op: Unary, a: u64) -> Result<Cell, Ends>
+    ensures { given result ≡ unary_gives (unary_by op) 3 a }
+{
+    let bits = match op {
+        Unary::Neg => reals::fneg(a),
+        Unary::ConvR8 => a,
+        Unary::Not | Unary::ConvI4 | Unary::ConvI8 => return Err(Ends::WrongType),
+    };
+    Ok(Cell { kind: REAL, bits })
+}
+
+pub fn converted(op: Unary, k: u8, a: u64) -> Result<Cell, Ends>
     ensures { k ≤ 3 → given result ≡ unary_gives (unary_by op) k a }
 {
-    if k == 0 {
-        return Err(Ends::WrongType);
+    match k {
+        INT32 => of_int32(op, a),
+        INT64 => of_int64(op, a),
+        REAL => of_real(op, a),
+        _ => Err(Ends::WrongType),
     }
-    if k < REAL {
-        return converted_bits(op, k, a);
-    }
-    if op == 0 {
-        return Ok(Cell {
-            kind: REAL,
-            bits: reals::fneg(a),
-        });
-    }
-    if 3 < op {
-        return Ok(Cell {
-            kind: REAL,
-            bits: a,
-        });
-    }
-    Err(Ends::WrongType)
 }

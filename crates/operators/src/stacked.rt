@@ -6,11 +6,11 @@ ghost use Rattle.state.specs.Meets.{Stays, Topped, Few, on_stack};
 ghost use Rattle.state.specs.Steps.{Own, ComesTo};
 ghost use Rattle.operators.specs.Gives.{binary_by, unary_by};
 
+use crate::codes::{Binary, Unary};
 use crate::operators::{converted, operated};
 use state::{Gone, Stay};
 
-// Two operands: numbers 0 add, 1 sub, 2 mul, 3 div; 4 rem, 5 div.un, 6 rem.un, 7 and, 8 or, 9 xor, 10 add.ovf, 11 mul.ovf, 12 sub.ovf; 13 shl, 14 shr,
-// 15 shr.un; from 16 on a comparison.
+// Two operands.
 #[inline(always)]
 pub fn binary(
     y: Stay,
@@ -18,7 +18,7 @@ pub fn binary(
     sp: usize,
     cells: &mut [u64; 2048],
     kinds: &mut [u8; 2048],
-    op: u8,
+    op: Binary,
     next: usize,
 ) -> Step
     requires stays { Stays y }
@@ -50,7 +50,7 @@ pub fn binary(
     }
 }
 
-// One operand: 0 neg, 1 not, 2 conv.i4, 3 conv.i8, 4 conv.r8.
+// One operand.
 #[inline(always)]
 pub fn unary(
     y: Stay,
@@ -58,7 +58,7 @@ pub fn unary(
     sp: usize,
     cells: &mut [u64; 2048],
     kinds: &mut [u8; 2048],
-    op: u8,
+    op: Unary,
     next: usize,
 ) -> Step
     requires stays { Stays y }

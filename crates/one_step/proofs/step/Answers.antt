@@ -4,7 +4,7 @@ use Rattle.model.specs.Answer.{pick}
 use Rattle.across_frames.specs.Lent.{opcode_of}
 use Rattle.one_step.proofs.Forms.{nop_form, ldargs, ldlocs, stlocs, null_form, ints, dup_form, pop_form, nears, fars, numbers, bits, overflows, unaries}
 use Rattle.one_step.proofs.Unknown.{no_even, no_odd, no_other}
-use Rattle.one_step.proofs.Promised.{reached, away, unknown}
+use Rattle.one_step.proofs.Promised.{away, unknown}
 use Rattle.one_step.proofs.Moves.{onward, argument, local, stored, numbered, number_stored, null_constant, constant, with_operand, doubled, popped, branched}
 use Rattle.one_step.proofs.Rest.{two_operands, one_operand, comparing, casting, of_object, of_class}
 use Rattle.state.specs.declared.Leave.TheVariants.{Ret, Call, Callvirt, Newobj}
@@ -207,58 +207,58 @@ pub returns-in-68 : goal.returns-in-68
 returns-in-68 c = let both = branched c.far-in-68.result c.requires.reads c.in-68.is fars.12 (c.far-in-68.ensures.own, c.far-in-68.ensures.meets) in record { topped = both.0; tells = both.1 }
 
 pub returns-in-88 : goal.returns-in-88
-returns-in-88 c = let both = two_operands c.binary.result c.requires.reads c.in-88.is 0 numbers.0 (c.binary.ensures.own, c.binary.ensures.meets) in record { topped = both.0; tells = both.1 }
+returns-in-88 c = let both = two_operands c.binary.result c.requires.reads c.in-88.is _ numbers.0 (c.binary.ensures.own, c.binary.ensures.meets) in record { topped = both.0; tells = both.1 }
 
 pub returns-in-89 : goal.returns-in-89
-returns-in-89 c = let both = two_operands c.binary-in-89.result c.requires.reads c.in-89.is 1 numbers.1 (c.binary-in-89.ensures.own, c.binary-in-89.ensures.meets) in record { topped = both.0; tells = both.1 }
+returns-in-89 c = let both = two_operands c.binary-in-89.result c.requires.reads c.in-89.is _ numbers.1 (c.binary-in-89.ensures.own, c.binary-in-89.ensures.meets) in record { topped = both.0; tells = both.1 }
 
 pub returns-in-90 : goal.returns-in-90
-returns-in-90 c = let both = two_operands c.binary-in-90.result c.requires.reads c.in-90.is 2 numbers.2 (c.binary-in-90.ensures.own, c.binary-in-90.ensures.meets) in record { topped = both.0; tells = both.1 }
+returns-in-90 c = let both = two_operands c.binary-in-90.result c.requires.reads c.in-90.is _ numbers.2 (c.binary-in-90.ensures.own, c.binary-in-90.ensures.meets) in record { topped = both.0; tells = both.1 }
 
 pub returns-in-91 : goal.returns-in-91
-returns-in-91 c = let both = two_operands c.binary-in-91.result c.requires.reads c.in-91.is 3 numbers.3 (c.binary-in-91.ensures.own, c.binary-in-91.ensures.meets) in record { topped = both.0; tells = both.1 }
+returns-in-91 c = let both = two_operands c.binary-in-91.result c.requires.reads c.in-91.is _ numbers.3 (c.binary-in-91.ensures.own, c.binary-in-91.ensures.meets) in record { topped = both.0; tells = both.1 }
 
 pub returns-in-92 : goal.returns-in-92
-returns-in-92 c = let both = two_operands c.binary-in-92.result c.requires.reads c.in-92.is 5 numbers.4 (c.binary-in-92.ensures.own, c.binary-in-92.ensures.meets) in record { topped = both.0; tells = both.1 }
+returns-in-92 c = let both = two_operands c.binary-in-92.result c.requires.reads c.in-92.is _ numbers.4 (c.binary-in-92.ensures.own, c.binary-in-92.ensures.meets) in record { topped = both.0; tells = both.1 }
 
 pub returns-in-93 : goal.returns-in-93
-returns-in-93 c = let both = two_operands c.binary-in-93.result c.requires.reads c.in-93.is 4 numbers.5 (c.binary-in-93.ensures.own, c.binary-in-93.ensures.meets) in record { topped = both.0; tells = both.1 }
+returns-in-93 c = let both = two_operands c.binary-in-93.result c.requires.reads c.in-93.is _ numbers.5 (c.binary-in-93.ensures.own, c.binary-in-93.ensures.meets) in record { topped = both.0; tells = both.1 }
 
 pub returns-in-94 : goal.returns-in-94
-returns-in-94 c = let both = two_operands c.binary-in-94.result c.requires.reads c.in-94.is 6 numbers.6 (c.binary-in-94.ensures.own, c.binary-in-94.ensures.meets) in record { topped = both.0; tells = both.1 }
+returns-in-94 c = let both = two_operands c.binary-in-94.result c.requires.reads c.in-94.is _ numbers.6 (c.binary-in-94.ensures.own, c.binary-in-94.ensures.meets) in record { topped = both.0; tells = both.1 }
 
 pub returns-in-95 : goal.returns-in-95
-returns-in-95 c = let both = two_operands c.binary-in-95.result c.requires.reads c.in-95.is 7 bits.0 (c.binary-in-95.ensures.own, c.binary-in-95.ensures.meets) in record { topped = both.0; tells = both.1 }
+returns-in-95 c = let both = two_operands c.binary-in-95.result c.requires.reads c.in-95.is _ bits.0 (c.binary-in-95.ensures.own, c.binary-in-95.ensures.meets) in record { topped = both.0; tells = both.1 }
 
 pub returns-in-96 : goal.returns-in-96
-returns-in-96 c = let both = two_operands c.binary-in-96.result c.requires.reads c.in-96.is 8 bits.1 (c.binary-in-96.ensures.own, c.binary-in-96.ensures.meets) in record { topped = both.0; tells = both.1 }
+returns-in-96 c = let both = two_operands c.binary-in-96.result c.requires.reads c.in-96.is _ bits.1 (c.binary-in-96.ensures.own, c.binary-in-96.ensures.meets) in record { topped = both.0; tells = both.1 }
 
 pub returns-in-97 : goal.returns-in-97
-returns-in-97 c = let both = two_operands c.binary-in-97.result c.requires.reads c.in-97.is 9 bits.2 (c.binary-in-97.ensures.own, c.binary-in-97.ensures.meets) in record { topped = both.0; tells = both.1 }
+returns-in-97 c = let both = two_operands c.binary-in-97.result c.requires.reads c.in-97.is _ bits.2 (c.binary-in-97.ensures.own, c.binary-in-97.ensures.meets) in record { topped = both.0; tells = both.1 }
 
 pub returns-in-98 : goal.returns-in-98
-returns-in-98 c = let both = two_operands c.binary-in-98.result c.requires.reads c.in-98.is 13 bits.3 (c.binary-in-98.ensures.own, c.binary-in-98.ensures.meets) in record { topped = both.0; tells = both.1 }
+returns-in-98 c = let both = two_operands c.binary-in-98.result c.requires.reads c.in-98.is _ bits.3 (c.binary-in-98.ensures.own, c.binary-in-98.ensures.meets) in record { topped = both.0; tells = both.1 }
 
 pub returns-in-99 : goal.returns-in-99
-returns-in-99 c = let both = two_operands c.binary-in-99.result c.requires.reads c.in-99.is 14 bits.4 (c.binary-in-99.ensures.own, c.binary-in-99.ensures.meets) in record { topped = both.0; tells = both.1 }
+returns-in-99 c = let both = two_operands c.binary-in-99.result c.requires.reads c.in-99.is _ bits.4 (c.binary-in-99.ensures.own, c.binary-in-99.ensures.meets) in record { topped = both.0; tells = both.1 }
 
 pub returns-in-100 : goal.returns-in-100
-returns-in-100 c = let both = two_operands c.binary-in-100.result c.requires.reads c.in-100.is 15 bits.5 (c.binary-in-100.ensures.own, c.binary-in-100.ensures.meets) in record { topped = both.0; tells = both.1 }
+returns-in-100 c = let both = two_operands c.binary-in-100.result c.requires.reads c.in-100.is _ bits.5 (c.binary-in-100.ensures.own, c.binary-in-100.ensures.meets) in record { topped = both.0; tells = both.1 }
 
 pub returns-in-101 : goal.returns-in-101
-returns-in-101 c = let both = one_operand c.unary.result c.requires.reads c.in-101.is 0 unaries.0 (c.unary.ensures.own, c.unary.ensures.meets) in record { topped = both.0; tells = both.1 }
+returns-in-101 c = let both = one_operand c.unary.result c.requires.reads c.in-101.is _ unaries.0 (c.unary.ensures.own, c.unary.ensures.meets) in record { topped = both.0; tells = both.1 }
 
 pub returns-in-102 : goal.returns-in-102
-returns-in-102 c = let both = one_operand c.unary-in-102.result c.requires.reads c.in-102.is 1 unaries.1 (c.unary-in-102.ensures.own, c.unary-in-102.ensures.meets) in record { topped = both.0; tells = both.1 }
+returns-in-102 c = let both = one_operand c.unary-in-102.result c.requires.reads c.in-102.is _ unaries.1 (c.unary-in-102.ensures.own, c.unary-in-102.ensures.meets) in record { topped = both.0; tells = both.1 }
 
 pub returns-in-105 : goal.returns-in-105
-returns-in-105 c = let both = one_operand c.unary-in-105.result c.requires.reads c.in-105.is 2 unaries.2 (c.unary-in-105.ensures.own, c.unary-in-105.ensures.meets) in record { topped = both.0; tells = both.1 }
+returns-in-105 c = let both = one_operand c.unary-in-105.result c.requires.reads c.in-105.is _ unaries.2 (c.unary-in-105.ensures.own, c.unary-in-105.ensures.meets) in record { topped = both.0; tells = both.1 }
 
 pub returns-in-106 : goal.returns-in-106
-returns-in-106 c = let both = one_operand c.unary-in-106.result c.requires.reads c.in-106.is 3 unaries.3 (c.unary-in-106.ensures.own, c.unary-in-106.ensures.meets) in record { topped = both.0; tells = both.1 }
+returns-in-106 c = let both = one_operand c.unary-in-106.result c.requires.reads c.in-106.is _ unaries.3 (c.unary-in-106.ensures.own, c.unary-in-106.ensures.meets) in record { topped = both.0; tells = both.1 }
 
 pub returns-in-108 : goal.returns-in-108
-returns-in-108 c = let both = one_operand c.unary-in-108.result c.requires.reads c.in-108.is 4 unaries.4 (c.unary-in-108.ensures.own, c.unary-in-108.ensures.meets) in record { topped = both.0; tells = both.1 }
+returns-in-108 c = let both = one_operand c.unary-in-108.result c.requires.reads c.in-108.is _ unaries.4 (c.unary-in-108.ensures.own, c.unary-in-108.ensures.meets) in record { topped = both.0; tells = both.1 }
 
 pub returns-in-111 : goal.returns-in-111
 unfolding opcode_of pick
@@ -287,13 +287,13 @@ pub returns-in-128 : goal.returns-in-128
 returns-in-128 c = let both = of_class c.static_store.result c.requires.reads c.in-128.is (c.static_store.ensures.own, c.static_store.ensures.meets) in record { topped = both.0; tells = both.1 }
 
 pub returns-in-214 : goal.returns-in-214
-returns-in-214 c = let both = two_operands c.binary-in-214.result c.requires.reads c.in-214.is 10 overflows.0 (c.binary-in-214.ensures.own, c.binary-in-214.ensures.meets) in record { topped = both.0; tells = both.1 }
+returns-in-214 c = let both = two_operands c.binary-in-214.result c.requires.reads c.in-214.is _ overflows.0 (c.binary-in-214.ensures.own, c.binary-in-214.ensures.meets) in record { topped = both.0; tells = both.1 }
 
 pub returns-in-216 : goal.returns-in-216
-returns-in-216 c = let both = two_operands c.binary-in-216.result c.requires.reads c.in-216.is 11 overflows.1 (c.binary-in-216.ensures.own, c.binary-in-216.ensures.meets) in record { topped = both.0; tells = both.1 }
+returns-in-216 c = let both = two_operands c.binary-in-216.result c.requires.reads c.in-216.is _ overflows.1 (c.binary-in-216.ensures.own, c.binary-in-216.ensures.meets) in record { topped = both.0; tells = both.1 }
 
 pub returns-in-218 : goal.returns-in-218
-returns-in-218 c = let both = two_operands c.binary-in-218.result c.requires.reads c.in-218.is 12 overflows.2 (c.binary-in-218.ensures.own, c.binary-in-218.ensures.meets) in record { topped = both.0; tells = both.1 }
+returns-in-218 c = let both = two_operands c.binary-in-218.result c.requires.reads c.in-218.is _ overflows.2 (c.binary-in-218.ensures.own, c.binary-in-218.ensures.meets) in record { topped = both.0; tells = both.1 }
 
 pub returns-in-254 : goal.returns-in-254
 returns-in-254 c = let both = comparing c.compared.result c.requires.reads c.in-254.is (c.compared.ensures.own, c.compared.ensures.meets) in record { topped = both.0; tells = both.1 }
