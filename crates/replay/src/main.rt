@@ -21,10 +21,9 @@ fn answered<R: Read, W: Write>(
     case: &mut [u8],
     out: &mut [u8],
 ) -> io::Result<bool> {
-    let n = reading::read(input, case)?;
-    if n == 0 {
+    let Some(n) = reading::read(input, case)? else {
         return Ok(false);
-    }
+    };
     let end = line(part(case, 0, n), out);
     output.write_all(part(out, 0, end))?;
     Ok(true)

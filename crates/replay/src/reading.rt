@@ -1,5 +1,5 @@
 // A case from an input.
-ghost use Rattle.std.specs.Prelude.{◌≡◌, ◌⊎◌, ◌≤◌, length, take, IfOk, IsTrue};
+ghost use Rattle.std.specs.Prelude.{◌≡◌, ◌≤◌, length, take, IfOk, IfSome, IsTrue};
 ghost use Rattle.case_line.specs.Case.{Whole};
 
 use case_line::announced;
@@ -22,19 +22,19 @@ fn more<R: Read>(input: &mut R, case: &mut [u8], from: usize, to: usize) -> io::
     Ok(fill(input, &mut case[from..to])? == to - from)
 }
 
-// Reads a case to the start of the buffer, and gives how long it is, 0 where it is cut off. What is there announces what follows, until it is a case.
-pub fn read<R: Read>(input: &mut R, case: &mut [u8]) -> io::Result<usize>
+// Reads a case to the start of the buffer, and gives how long it is if it is all there. What is there announces what follows, until it is a case.
+pub fn read<R: Read>(input: &mut R, case: &mut [u8]) -> io::Result<Option<usize>>
     ensures size { length case.new ≡ length case.old }
-    ensures whole { IfOk result (λ n. (n ≡ 0) ⊎ Whole (take n case.new)) }
+    ensures whole { IfOk result (λ case_read. IfSome case_read (λ n. Whole (take n case.new))) }
 {
     let mut have = 0;
     let mut all = announced(part(case, 0, have));
     while have != all {
         if !more(input, case, have, all)? {
-            return Ok(0);
+            return Ok(None);
         }
         have = all;
         all = announced(part(case, 0, have));
     }
-    Ok(have)
+    Ok(Some(have))
 }

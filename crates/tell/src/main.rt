@@ -17,9 +17,6 @@ const PLACE: usize = 4;
 // Room for a part of a module.
 const MOST_PART: usize = 65536;
 
-// For the length of a part that is not all there: more than two bytes say.
-const CUT: usize = 65536;
-
 // Reads n bytes, if there are so many, to the start of buf.
 fn filled<R: Read>(input: &mut R, buf: &mut [u8], n: usize) -> io::Result<bool> {
     if n <= buf.len() {
@@ -28,14 +25,18 @@ fn filled<R: Read>(input: &mut R, buf: &mut [u8], n: usize) -> io::Result<bool> 
     Ok(false)
 }
 
-// Reads a part of the module to the start of buf, and gives its length.
-fn read_part<R: Read>(input: &mut R, buf: &mut [u8]) -> io::Result<usize> {
+// Reads a part of the module to the start of buf, and gives its length if it is all there.
+fn read_part<R: Read>(input: &mut R, buf: &mut [u8]) -> io::Result<Option<usize>> {
     let mut bytes = [0u8; NUMBER];
     if fill(input, &mut bytes)? < NUMBER {
-        return Ok(CUT);
+        return Ok(None);
     }
     let n = little2(&bytes) as usize;
-    Ok(if filled(input, buf, n)? { n } else { CUT })
+    Ok(if filled(input, buf, n)? {
+        Some(n)
+    } else {
+        None
+    })
 }
 
 // Whether there was a place; if so its line is written.
@@ -78,14 +79,12 @@ fn main(rt: HostRuntime) -> io::Result<()> {
     let mut second = [0u8; MOST_PART];
     let tables: &mut [u8] = &mut first;
     let code: &mut [u8] = &mut second;
-    let t = read_part(&mut rt.stdin(), tables)?;
-    if t == CUT {
+    let Some(t) = read_part(&mut rt.stdin(), tables)? else {
         return Ok(());
-    }
-    let c = read_part(&mut rt.stdin(), code)?;
-    if c == CUT {
+    };
+    let Some(c) = read_part(&mut rt.stdin(), code)? else {
         return Ok(());
-    }
+    };
     places(
         &mut rt.stdin(),
         &mut rt.stdout(),

@@ -1,5 +1,5 @@
 -- What is there is as much as it announces only where it is a case.
-use Rattle.std.proofs.Common.{inr, ap, sym, ◌∙◌, rules, length-take-le}
+use Rattle.std.proofs.Common.{ap, sym, ◌∙◌, rules, length-take-le}
 use Rattle.model.specs.Tables.{part_of}
 use Rattle.case_line.specs.Places.{announced_by}
 use Rattle.case_line.proofs.Cases.{whole}
@@ -16,4 +16,4 @@ loop-have-preserved g c = (search rules, search rules, c.announced-all-in-loop-h
 pub returns-clause-whole : goal.returns-clause-whole
 returns-clause-whole g c =
     let i = c.loop-have.invariant in
-    inr (whole _ (sym i.2 ∙ sym c.loop-have-test.false ∙ sym (length-take-le _ _ i.1)))
+    whole _ (sym i.2 ∙ sym c.loop-have-test.false ∙ sym (length-take-le _ _ i.1))
