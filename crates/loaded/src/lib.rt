@@ -6,7 +6,8 @@ ghost use Rattle.loaded.specs.Holds.{nothing as nothing_of};
 
 pub mod columns; // what stands where in a row
 
-// A fault: its number, 0 where there is none, and its place. A refusal of loading has method 0, and the place in the tables as offset.
+// A fault: its number and its place. A refusal of loading has method 0, and the place in the tables as offset.
+// Stays: the number is document 01's, which the C interface hands out.
 #[derive(Clone, Copy)]
 pub struct Fault {
     pub number: u8,

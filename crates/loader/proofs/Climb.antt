@@ -6,6 +6,8 @@ use mathlib.Core.List.{List, [], ◌∷◌}
 use native.Mathlib.Omega.{arith}
 use lib.ListN.{length, get_or, drop, get_or-eq_default}
 use lib.Seq.{get_or-drop, drop-drop}
+use Rattle.std.specs.Int.{from_le_bytes}
+use mir.Syntax.{w16, w32}
 use Rattle.model.specs.Answer.{those, keep_if}
 use Rattle.model.specs.Tables.{parent_of, Field, Method, is_own, layout_up, layout, is_static_field}
 use Rattle.model.specs.Loading.{Loading, little}
@@ -122,15 +124,23 @@ little_four t k a b c d ea eb ec ed =
     let y = little_two t (k + 2) c d ec (ed ∙ ap (λ (i : ℕ). get_or t i 0) (sym q)) in
     omega arith
 
+low_first_two : (a b : ℕ) → from_le_bytes w16 (a ∷ b ∷ []) ≡ a + 256 * b
+low_first_two a b = omega arith
+
+low_first_four : (a b c d : ℕ) → from_le_bytes w32 (a ∷ b ∷ c ∷ d ∷ []) ≡ a + 256 * b + 65536 * (c + 256 * d)
+low_first_four a b c d = omega arith
+
 -- a method's record from its bytes
-pub body : (t : List ℕ) (at a b c d e f : ℕ) → a ≡ get_or t (at + 6) 0 → b ≡ get_or t (at + 7) 0 → c ≡ get_or t (at + 8) 0 → d ≡ get_or t (at + 9) 0 → e ≡ get_or t (at + 10) 0 → f ≡ get_or t (at + 11) 0
-    → ◌≡◌ {A = Body} (record { owner = get_or t (at + 1) 0; sort = get_or t (at + 2) 0; returns = get_or t (at + 3) 0; stack = get_or t (at + 4) 0; overridden = get_or t (at + 5) 0; offset = a + 256 * b + 65536 * (c + 256 * d); size = e + 256 * f }) (body_of t at)
+pub body : (t : List ℕ) (at offset size : ℕ)
+    → offset ≡ from_le_bytes w32 (get_or t (at + 6) 0 ∷ get_or t (at + 7) 0 ∷ get_or t (at + 8) 0 ∷ get_or t (at + 9) 0 ∷ [])
+    → size ≡ from_le_bytes w16 (get_or t (at + 10) 0 ∷ get_or t (at + 11) 0 ∷ [])
+    → ◌≡◌ {A = Body} (record { owner = get_or t (at + 1) 0; sort = get_or t (at + 2) 0; returns = get_or t (at + 3) 0; stack = get_or t (at + 4) 0; overridden = get_or t (at + 5) 0; offset = offset; size = size }) (body_of t at)
 unfolding body_of
-body t at a b c d e f ea eb ec ed ee ef =
+body t at offset size eo es =
     let i : at + 7 ≡ at + 6 + 1 = omega arith in
     let j : at + 8 ≡ at + 6 + 2 = omega arith in
     let k : at + 9 ≡ at + 6 + 3 = omega arith in
     let l : at + 11 ≡ at + 10 + 1 = omega arith in
-    let offset = little_four t (at + 6) a b c d ea (eb ∙ ap (λ (x : ℕ). get_or t x 0) i) (ec ∙ ap (λ (x : ℕ). get_or t x 0) j) (ed ∙ ap (λ (x : ℕ). get_or t x 0) k) in
-    let size = little_two t (at + 10) e f ee (ef ∙ ap (λ (x : ℕ). get_or t x 0) l) in
-    λ x. record { owner = get_or t (at + 1) 0; sort = get_or t (at + 2) 0; returns = get_or t (at + 3) 0; stack = get_or t (at + 4) 0; overridden = get_or t (at + 5) 0; offset = offset x; size = size x }
+    let o = eo ∙ low_first_four _ _ _ _ ∙ little_four t (at + 6) _ _ _ _ refl (ap (λ (x : ℕ). get_or t x 0) i) (ap (λ (x : ℕ). get_or t x 0) j) (ap (λ (x : ℕ). get_or t x 0) k) in
+    let s = es ∙ low_first_two _ _ ∙ little_two t (at + 10) _ _ refl (ap (λ (x : ℕ). get_or t x 0) l) in
+    λ x. record { owner = get_or t (at + 1) 0; sort = get_or t (at + 2) 0; returns = get_or t (at + 3) 0; stack = get_or t (at + 4) 0; overridden = get_or t (at + 5) 0; offset = o x; size = s x }

@@ -20,7 +20,7 @@ use loaded::columns::{
 };
 use loaded::{Counts, Loaded};
 
-// A method's record: its body, the code part's offset and length as whole numbers.
+// A method's record, the code part's offset and length as whole numbers.
 #[derive(Clone, Copy)]
 pub struct Body {
     pub owner: u8,
@@ -37,16 +37,21 @@ pub fn read_body(tables: &[u8], at: usize) -> Body
     requires { at + 12 ≤ length tables.now }
     ensures { result ≡ body_of tables.now at }
 {
-    let low = tables[at + 6] as usize + 256 * tables[at + 7] as usize;
-    let high = tables[at + 8] as usize + 256 * tables[at + 9] as usize;
+    let offset = u32::from_le_bytes([
+        tables[at + 6],
+        tables[at + 7],
+        tables[at + 8],
+        tables[at + 9],
+    ]);
+    let size = u16::from_le_bytes([tables[at + 10], tables[at + 11]]);
     Body {
         owner: tables[at + 1],
         sort: tables[at + 2],
         returns: tables[at + 3],
         stack: tables[at + 4],
         overridden: tables[at + 5],
-        offset: low + 65536 * high,
-        size: tables[at + 10] as usize + 256 * tables[at + 11] as usize,
+        offset: offset as usize,
+        size: size as usize,
     }
 }
 

@@ -23,6 +23,7 @@ pub const MOST_STACK: u8 = 32;
 pub const MOST_LENGTH: usize = 1024;
 
 // Sorts of methods.
+// Stays: a sort and a type are the bytes of their rows, which the check and the machine read too; an enum would be turned to and fro at each row.
 pub const STATIC: u8 = 0;
 
 pub const VIRTUAL: u8 = 2;

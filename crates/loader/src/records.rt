@@ -90,6 +90,7 @@ pub fn read_records(
         (λ u L. Stands code.now L loaded.new notes.new) }
 {
     let mut at = 0;
+    // Stays: how long a record is shows only once it is read, so no range or iterator has its offsets.
     while at < tables.len() {
         match read_record(tables, at, code.len(), loaded, notes) {
             Ok(next) => at = next,
