@@ -1,11 +1,11 @@
 -- Little-endian numbers, over the count of their bytes.
 use mathlib.Core.Path.{◌≡◌, refl, sym, ap, ◌∙◌}
 use mathlib.Core.List.{List, [], ◌∷◌}
-use Prim.Native.Nat.{ℕ, zero, suc, ◌+◌, ◌-◌, ◌*◌, ◌^◌, ◌≤◌, ◌<◌, min}
-use native.Mathlib.Nat.{pow-succ', pow-le-pow_right}
+use Prim.Native.Nat.{ℕ, zero, suc, ◌+◌, ◌*◌, ◌%◌, ◌^◌, ◌≤◌, ◌<◌, min}
+use native.Mathlib.Nat.{pow-succ', pow-le-pow_right, mul-add, mul_left_comm, mul-le-mul_right, one-le-pow, mod-eq_of_lt}
+use native.Mathlib.Numerals.{add-one}
 use native.Mathlib.Omega.{arith}
-use lib.ListN.{length, get_or, drop}
-use Rattle.std.proofs.Common.{drop-cons}
+use lib.ListN.{length, get_or}
 use Rattle.model.specs.Loading.{little}
 
 pub little_nil : (n : ℕ) → little n [] ≡ 0
@@ -27,25 +27,37 @@ unfolding little
 one [] = refl
 one (b ∷ l) = omega arith
 
-front : (m j n b : ℕ) (l : List ℕ) → j < length l → b ≡ get_or l j 0 → n ≡ little m (drop (suc j) l) → n * 256 + b ≡ little (suc m) (drop j l)
+-- one byte more
+pub after : (i : ℕ) (l : List ℕ) → little (suc i) l ≡ little i l + get_or l i 0 * 256 ^ i
 unfolding little
-front m j n b l h e q = rw (drop-cons l j 0 h, e, q) (omega arith)
+after i [] = little_nil (suc i) ∙ sym (ap (λ (n : ℕ). n + 0 * 256 ^ i) (little_nil i) ∙ omega arith)
+after zero (b ∷ l) = omega arith
+after (suc i) (b ∷ l) =
+    let next = after i l in
+    let power = pow-succ' 256 i in
+    rw (next, power, mul-add, mul_left_comm) (omega arith)
 
-larger : (m n b : ℕ) → b < 256 → n < 256 ^ m → n * 256 + b < 256 ^ suc m
-larger m n b h l = rw (pow-succ' 256 m) (omega arith)
+power : (i : ℕ) → i < 8 → 2 ^ (8 * i) ≡ 256 ^ i
+power zero h = refl
+power (suc zero) h = refl
+power (suc (suc zero)) h = refl
+power (suc (suc (suc zero))) h = refl
+power (suc (suc (suc (suc zero)))) h = refl
+power (suc (suc (suc (suc (suc zero))))) h = refl
+power (suc (suc (suc (suc (suc (suc zero)))))) h = refl
+power (suc (suc (suc (suc (suc (suc (suc zero))))))) h = refl
+power (suc (suc (suc (suc (suc (suc (suc (suc i)))))))) h = absurd (omega arith)
 
--- one byte more in front of those from i on
-module _ (count i n b : ℕ) (l : List ℕ) (some : 0 < i) (within : i ≤ count) where
-  less : count - (i - 1) ≡ suc (count - i)
-  less = omega arith
+-- a byte moved up to its place
+module _ (i b : ℕ) (within : i < 8) (byte : b < 256) where
+  weight : b * 256 ^ i + 256 ^ i ≤ 256 ^ suc i
+  weight = let most : b * 256 ^ i ≤ 255 * 256 ^ i = mul-le-mul_right (256 ^ i) (omega arith) in omega (arith, pow-succ' 256 i)
 
-  pub in_front : count ≤ length l → b ≡ get_or l (i - 1) 0 → n ≡ little (count - i) (drop i l) → n * 256 + b ≡ little (count - (i - 1)) (drop (i - 1) l)
-  in_front k e q =
-      let next : suc (i - 1) ≡ i = omega arith in
-      rw less (front (count - i) (i - 1) n b l (omega arith) e (q ∙ sym (ap (λ (j : ℕ). little (count - i) (drop j l)) next)))
+  pub moved : b * 2 ^ (8 * i) % 2 ^ 64 ≡ b * 256 ^ i
+  moved =
+      let most : 256 ^ suc i ≤ 256 ^ 8 = pow-le-pow_right (omega arith) within in
+      let some : 0 < 256 ^ i = one-le-pow i 256 (omega arith) in
+      ap (λ (k : ℕ). b * k % 2 ^ 64) (power i within) ∙ mod-eq_of_lt (omega (arith, weight))
 
-  pub in_bounds : b < 256 → n < 256 ^ (count - i) → n * 256 + b < 256 ^ (count - (i - 1))
-  in_bounds h f = rw less (larger (count - i) n b h f)
-
-pub few : (m n : ℕ) → m ≤ 8 → n < 256 ^ m → n < 2 ^ 64
-few m n h l = let most : 256 ^ m ≤ 256 ^ 8 = pow-le-pow_right (omega arith) h in omega arith
+  pub placed : {n : ℕ} → n < 256 ^ i → n + b * 2 ^ (8 * i) % 2 ^ 64 < 256 ^ (i + 1)
+  placed l = rw (moved, add-one i) (omega (arith, weight))

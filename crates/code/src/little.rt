@@ -2,7 +2,7 @@
 ghost use Rattle.std.specs.Prelude.{◌≡◌, ◌^◌, ◌<◌, ◌≤◌, length};
 ghost use Rattle.model.specs.Loading.{little};
 
-// The number of so many bytes that are there, the last first.
+// The number of so many bytes that are there.
 fn number(part: &[u8], count: usize) -> u64
     requires few { count ≤ 8 }
     requires there { count ≤ length part.now }
@@ -10,8 +10,8 @@ fn number(part: &[u8], count: usize) -> u64
     ensures below { result < 256 ^ count }
 {
     let mut n = 0;
-    for i in (0..count).rev() {
-        n = n * 0x100 + u64::from(part[i]);
+    for i in 0..count {
+        n += u64::from(part[i]) << (8 * i);
     }
     n
 }
