@@ -5,9 +5,11 @@ use mathlib.Core.Bool.{Bool, true, false, not, ◌&&◌}
 use mathlib.Core.Option.{Option, none, some}
 use mathlib.Core.List.{List, [], ◌∷◌}
 use native.Mathlib.Omega.{arith}
-use borrow.Author.Tests.{lt-ltb, le-ltb, eq-eqb, ne_eqb, ltb-true, ltb-false, eqb-true, eqb-false}
-use lib.Dec.{ltb, eqb}
-use lib.ListN.{length, get_or}
+use borrow.Author.Tests.{lt-ltb, le-ltb, lt-leb, le-leb, ne_eqb, ltb-true, eqb-true, eqb-false}
+use lib.Dec.{ltb, leb, eqb}
+use lib.ListN.{length, get_or, drop, length-drop, length-take}
+use Rattle.std.specs.List.{slice_range}
+use Rattle.std.proofs.lemmas.List.{get_or-take, get_or-drop}
 use Rattle.model.specs.Answer.{Answer, ok, ◌>>=◌, need, guard, pick, only_if, map_option, is_none, at, row}
 use Rattle.model.specs.Tables.{Ty, int32, int64, F, null, class, byte_of, Sort, static, instance, virtual, constructor, initialiser, is_sort, sort_byte, Field}
 use Rattle.model.specs.Tables.{Method, Module, arguments, this_of, due, as_list}
@@ -18,83 +20,23 @@ use Rattle.model.specs.Operators.{flag, Kind, k32, k64, k_f, reference, kind, ki
 use Rattle.model.specs.Operators.{relation_of, relates_ref, comparison, binary_of}
 use Rattle.model.specs.Check.{Shape, plain_effect, effect, call_effect, newobj_effect}
 use Rattle.code.specs.Operand.{maybe}
-use Rattle.std.specs.Prelude.{Option as Found, None, Some, is_some}
-use Rattle.shapes.specs.declared.shape.After.{After}
-use Rattle.shapes.specs.Pool.{Pool, pool, Fine, Grown, Agrees, Takes}
+use Rattle.code.proofs.Targets.{kept}
+use Rattle.std.specs.Bool.{then_some}
+use borrow.Author.Tests.{leb-true, leb-false}
+use Rattle.std.specs.Prelude.{Option as Found, None, Some, is_some, Result, Err}
+use Rattle.shapes.specs.declared.fault.FaultKind.{FaultKind}
+use Rattle.shapes.specs.declared.fault.FaultKind.TheVariants as fault
+use Rattle.shapes.specs.declared.kind.Pair.TheVariants.{Numbers, Integers, Shift, Alike}
+use Rattle.shapes.specs.declared.shape.Pool.{Pool}
+use Rattle.shapes.specs.Pool.{Fine, Grown, Agrees, Takes}
 use Rattle.shapes.specs.Effects.{Types, Gives, called_effect, binary_effect, compare_effect}
 use Rattle.check_operands.specs.Groups.{call_by, field_by, may_call, plain_by, ins_by}
 use Rattle.shapes.specs.Kinds.{pairs, is_integer}
 use Rattle.loaded.specs.Holds.{method_cell, field_cell}
 use Rattle.check_operands.specs.Held.{Typed, row_among, HeldFields, HeldMethods}
-use Rattle.shapes.proofs.Replies.{stay}
+use Rattle.shapes.proofs.Showing.{same_grown}
 
--- ---- Declared types
-
-pub type_none : (ts : List Ty) (i : ℕ) → length ts ≤ i → Typed 256 (at ts i)
-unfolding Typed at
-type_none [] i h = omega arith
-type_none (t ∷ ts) zero h = absurd (omega arith)
-type_none (t ∷ ts) (suc i) h = type_none ts i (omega arith)
-
-pub type_some : (l : List ℕ) (from : ℕ) (ts : List Ty) (i r : ℕ) → i < length ts → Types l from ts → r ≡ get_or l (from + i) 0 → r < 256 → Typed r (at ts i)
-unfolding Typed at
-type_some l from ts i r h t e b = by (at ts i) refl (there ts i h)
-  where
-    there : (ts : List Ty) (i : ℕ) → i < length ts → at ts i ≡ none → ⊥
-    there [] i h e = omega arith
-    there (t ∷ ts) zero h e = let z : ◌≡◌ {A = ℕ} 0 1 = cc in omega arith
-    there (t ∷ ts) (suc i) h e = there ts i (omega arith) e
-
-    by : (o : Option Ty) → at ts i ≡ o → (o ≡ none → ⊥) → Typed r o
-    by none q n = absurd (n refl)
-    by (some u) q n = (sym (e ∙ t i u q), b)
-
-pub no_type : (o : Option Ty) (t : ℕ) → Typed t o → 255 < t → o ≡ none
-unfolding Typed
-no_type none t h l = refl
-no_type (some u) t h l = let k : t < 256 = h.1 in absurd (omega arith)
-
-pub record Declared (o : Option Ty) (t : ℕ) : Type 0 where
-  pub type : Ty
-  pub is : o ≡ some type
-  pub byte : byte_of type ≡ t
-
-pub a_type : (o : Option Ty) (t : ℕ) → Typed t o → t ≤ 255 → Declared o t
-unfolding Typed
-a_type none t h l = absurd (omega arith)
-a_type (some u) t h l = record { type = u; is = refl; byte = h.0 }
-
--- no operand where there is no type
-pub untyped : {A : Type 0} (f : Ty → A) (o : Option Ty) (t : ℕ) → Typed t o → ltb 255 t ≡ is_none (map_option f o)
-unfolding Typed is_none map_option
-untyped f none t h = lt-ltb 255 t h
-untyped f (some u) t h = let k : t < 256 = h.1 in le-ltb 255 t (omega arith)
-
--- ---- Answers with an operand
-
-pub lacks : {A : Type 0} (P : Pool) (r : After) (f : A → Answer ℕ Shape) (o : Option A) → o ≡ none → (r.fault ≡ 12) × (r.shape ≡ 1) × (r.made ≡ P.made)
-    → Fine P
-    → Takes (pool P.tops P.belows P.heights r.made) r f o × Grown P (pool P.tops P.belows P.heights r.made)
-unfolding Takes
-lacks P r f o e h k = (rw e h.0, stay P r.made h.2 k)
-
-pub has : {A : Type 0} (P Q : Pool) (r : After) (f : A → Answer ℕ Shape) (o : Option A) (a : A) (B : Answer ℕ Shape) → o ≡ some a → f a ≡ B
-    → Agrees Q r B × Grown P Q → Takes Q r f o × Grown P Q
-unfolding Takes
-has P Q r f o a B e q h = (rw (e, q) h.0, h.1)
-
--- the same under another name
-pub renamed : {A : Type 0} (P Q : Pool) (r : After) (f : A → Answer ℕ Shape) (o p : Option A) → o ≡ p → Takes Q r f p × Grown P Q → Takes Q r f o × Grown P Q
-renamed P Q r f o p e h = rw e h
-
--- no operand where there is no row
-pub zero_none : {A : Type 0} (o : Option A) (r : ℕ) → (r ≡ 0 → o ≡ none) → ((r ≡ 0 → ⊥) → is_none o ≡ false) → eqb r 0 ≡ is_none o
-unfolding is_none
-zero_none o r x y = by (eqb r 0) refl
-  where
-    by : (b : Bool) → eqb r 0 ≡ b → eqb r 0 ≡ is_none o
-    by true q = q ∙ sym (ap is_none (x (eqb-true r 0 q)))
-    by false q = q ∙ sym (y (eqb-false r 0 q))
+-- ---- What may be missing
 
 -- whether it is missing, as the code tests it
 pub absent : {A : Type 0} (r : Found A) (b : Bool) (o : Option A) → is_some r ≡ not b → maybe r ≡ o → b ≡ is_none o
@@ -103,6 +45,72 @@ absent None true o e q = rw (← q) refl
 absent None false o e q = let z : ◌≡◌ {A = ℕ} 0 1 = cc in absurd (omega arith)
 absent (Some a) true o e q = let z : ◌≡◌ {A = ℕ} 0 1 = cc in absurd (omega arith)
 absent (Some a) false o e q = rw (← q) refl
+
+-- the same by what it is
+pub missing : {A : Type 0} (R : Found ℕ) (b : Bool) (o : Option A) → (R ≡ None → o ≡ none) → ((r : ℕ) → R ≡ Some r → is_none o ≡ false)
+    → is_some R ≡ not b → b ≡ is_none o
+unfolding is_none
+missing None true o x y e = sym (ap is_none (x refl))
+missing None false o x y e = cc
+missing (Some r) true o x y e = cc
+missing (Some r) false o x y e = sym (y r refl)
+
+-- ---- Declared types
+
+pub type_none : (ts : List Ty) (i : ℕ) → length ts ≤ i → Typed None (at ts i)
+unfolding Typed at
+type_none [] i h = refl
+type_none (t ∷ ts) zero h = absurd (omega arith)
+type_none (t ∷ ts) (suc i) h = type_none ts i (omega arith)
+
+pub type_some : (l : List ℕ) (from : ℕ) (ts : List Ty) (i r : ℕ) → i < length ts → Types l from ts → r ≡ get_or l (from + i) 0 → Typed (Some r) (at ts i)
+unfolding Typed at
+type_some l from ts i r h t e = by (at ts i) refl (there ts i h)
+  where
+    there : (ts : List Ty) (i : ℕ) → i < length ts → at ts i ≡ none → ⊥
+    there [] i h e = omega arith
+    there (t ∷ ts) zero h e = let z : ◌≡◌ {A = ℕ} 0 1 = cc in omega arith
+    there (t ∷ ts) (suc i) h e = there ts i (omega arith) e
+
+    by : (o : Option Ty) → at ts i ≡ o → (o ≡ none → ⊥) → Typed (Some r) o
+    by none q n = absurd (n refl)
+    by (some u) q n = ap Some (e ∙ t i u q)
+
+pub no_type : (o : Option Ty) (r : Found ℕ) → Typed r o → r ≡ None → o ≡ none
+unfolding Typed
+no_type none r h e = refl
+no_type (some u) r h e = let z : r ≡ Some (byte_of u) = h in cc
+
+pub record Declared (o : Option Ty) (t : ℕ) : Type 0 where
+  pub type : Ty
+  pub is : o ≡ some type
+  pub byte : byte_of type ≡ t
+
+pub a_type : (o : Option Ty) (r : Found ℕ) (t : ℕ) → Typed r o → r ≡ Some t → Declared o t
+unfolding Typed
+a_type none r t h e = let z : r ≡ None = h in cc
+a_type (some u) r t h e = let z : r ≡ Some (byte_of u) = h in let y : byte_of u ≡ t = cc in record { type = u; is = refl; byte = y }
+
+-- no operand where there is no type
+pub untyped : {A : Type 0} (f : Ty → A) (o : Option Ty) (r : Found ℕ) (b : Bool) → Typed r o → is_some r ≡ not b → b ≡ is_none (map_option f o)
+unfolding Typed is_none map_option
+untyped f none r b h e = absent r b none e (ap maybe h)
+untyped f (some u) r b h e = absent r b (some (byte_of u)) e (ap maybe h)
+
+-- ---- Answers with an operand
+
+pub lacks : {A : Type 0} (P : Pool) (f : A → Answer ℕ Shape) (o : Option A) → o ≡ none → Fine P → Takes P (Err fault.Operand) f o × Grown P P
+unfolding Takes
+lacks P f o e k = (rw e refl, same_grown P k)
+
+pub has : {A : Type 0} (P Q : Pool) (r : Result ℕ FaultKind) (f : A → Answer ℕ Shape) (o : Option A) (a : A) (B : Answer ℕ Shape) → o ≡ some a → f a ≡ B
+    → Agrees Q r B × Grown P Q → Takes Q r f o × Grown P Q
+unfolding Takes
+has P Q r f o a B e q h = (rw (e, q) h.0, h.1)
+
+-- the same under another name
+pub renamed : {A : Type 0} (P Q : Pool) (r : Result ℕ FaultKind) (f : A → Answer ℕ Shape) (o p : Option A) → o ≡ p → Takes Q r f p × Grown P Q → Takes Q r f o × Grown P Q
+renamed P Q r f o p e h = rw e h
 
 pub some_there : {A : Type 0} (o : Option A) (a : A) → o ≡ some a → is_none o ≡ false
 unfolding is_none
@@ -129,38 +137,38 @@ row_there (x ∷ l) (suc zero) h k = record { what = x; is = refl }
 row_there (x ∷ l) (suc (suc r)) h k = let s = row_there l (suc r) (omega arith) (omega arith) in record { what = s.what; is = s.is }
 
 -- no row
-pub none_among : {A B : Type 0} (l : List A) (n : ℕ) (o : Option ℕ) (f : ℕ → A → Option B) → n ≡ length l → row_among n o ≡ 0
+pub none_among : {A B : Type 0} (l : List A) (n : ℕ) (o : Option ℕ) (f : ℕ → A → Option B) → n ≡ length l → row_among n o ≡ none
     → and_then o (λ r. and_then (row l r) (f r)) ≡ none
-unfolding row_among and_then pick row
+unfolding row_among and_then only_if row
 none_among l n none f e h = refl
-none_among l n (some r) f e h = by (ltb n r) refl
+none_among l n (some zero) f e h = refl
+none_among l n (some (suc i)) f e h = by (leb (suc i) n) refl
   where
-    by : (b : Bool) → ltb n r ≡ b → and_then (row l r) (f r) ≡ none
-    by true q = let k : length l < r = rw (← e) (ltb-true n r q) in rw (row_past l r k) refl
-    by false q = let z : r ≡ 0 = (let y : pick (ltb n r) 0 r ≡ r = rw q refl in sym y ∙ h) in rw z refl
+    by : (b : Bool) → leb (suc i) n ≡ b → and_then (row l (suc i)) (f (suc i)) ≡ none
+    by true q = let z : ◌≡◌ {A = Option ℕ} (some (suc i)) none = rw (q, lt-ltb 0 (suc i) (omega arith)) at h in cc
+    by false q = let k : n < suc i = leb-false (suc i) n q in rw (row_past l (suc i) (omega arith)) refl
 
 -- a row
-pub record Among {A : Type 0} (l : List A) (n : ℕ) (o : Option ℕ) : Type 0 where
+pub record Among {A : Type 0} (l : List A) (o : Option ℕ) (r : ℕ) : Type 0 where
   pub what : A
-  pub is : row l (row_among n o) ≡ some what
-  pub named : o ≡ some (row_among n o)
+  pub is : row l r ≡ some what
+  pub named : o ≡ some r
 
-pub one_among : {A : Type 0} (l : List A) (n : ℕ) (o : Option ℕ) → n ≡ length l → (row_among n o ≡ 0 → ⊥) → Among l n o
-unfolding row_among pick
-one_among l n none e h = absurd (h refl)
-one_among l n (some r) e h = by (ltb n r) refl
+pub one_among : {A : Type 0} (l : List A) (n : ℕ) (o : Option ℕ) (r : ℕ) → n ≡ length l → row_among n o ≡ some r → Among l o r
+unfolding row_among and_then only_if
+one_among l n none r e h = cc
+one_among l n (some x) r e h = by (ltb 0 x) (leb x n) refl refl
   where
-    by : (b : Bool) → ltb n r ≡ b → Among l n (some r)
-    by true q = absurd (h (rw q refl))
-    by false q =
-        let k : r ≤ n = ltb-false n r q in
-        let z : 0 < r = pos r (λ w. h (rw q w)) in
-        let s = row_there l r z (omega arith) in
-        record { what = s.what; is = rw q s.is; named = rw q refl }
-      where
-        pos : (r : ℕ) → (r ≡ 0 → ⊥) → 0 < r
-        pos zero h = absurd (h refl)
-        pos (suc r) h = omega arith
+    by : (a b : Bool) → ltb 0 x ≡ a → leb x n ≡ b → Among l (some x) r
+    by true true p q =
+        let z : ◌≡◌ {A = Option ℕ} (some x) (some r) = rw (p, q) at h in
+        let y : x ≡ r = cc in
+        let u : 0 < x = ltb-true 0 x p in
+        let v : x ≤ n = leb-true x n q in
+        let s = row_there l x (omega arith) (omega arith) in
+        record { what = s.what; is = subst (λ (k : ℕ). row l k ≡ some s.what) y s.is; named = z }
+    by false b p q = let z : ◌≡◌ {A = Option ℕ} none (some r) = rw p at h in cc
+    by true false p q = let z : ◌≡◌ {A = Option ℕ} none (some r) = rw (p, q) at h in cc
 
 -- ---- Classes
 
@@ -176,21 +184,19 @@ class_is M t = by (row_of 2 t)
     by none = refl
     by (some r) = in_row r (row M.parents r)
 
-pub class_lacks : (M : Module) (m : Method) (t n r : ℕ) → n ≡ length M.parents → r ≡ row_among n (row_of 2 t) → r ≡ 0 → operands M m (castclass t) ≡ none
-unfolding operands map_option
-class_lacks M m t n r e q z = rw (class_is M t, none_among M.parents n (row_of 2 t) (λ r p. some r) e (sym q ∙ z)) refl
+module _ (M : Module) (m : Method) (t n : ℕ) (R : Found ℕ) (e : n ≡ length M.parents) (said : maybe R ≡ row_among n (row_of 2 t)) where
+  pub class_lacks : R ≡ None → operands M m (castclass t) ≡ none
+  unfolding operands map_option
+  class_lacks z = rw (class_is M t, none_among M.parents n (row_of 2 t) (λ r p. some r) e (sym said ∙ ap maybe z)) refl
 
-pub class_has : (M : Module) (m : Method) (t n r : ℕ) → n ≡ length M.parents → r ≡ row_among n (row_of 2 t) → (r ≡ 0 → ⊥)
-    → operands M m (castclass t) ≡ some (Act.castclass r)
-unfolding operands map_option and_then
-class_has M m t n r e q z =
-    let a = one_among M.parents n (row_of 2 t) e (λ w. z (q ∙ w)) in
-    rw (class_is M t, a.named, ← q) (ap (λ (o : Option ℕ). map_option Act.castclass (and_then o (λ p. some r))) (ap (row M.parents) q ∙ a.is))
+  pub class_has : (r : ℕ) → R ≡ Some r → operands M m (castclass t) ≡ some (Act.castclass r)
+  unfolding operands map_option and_then
+  class_has r z =
+      let a = one_among M.parents n (row_of 2 t) r e (sym said ∙ ap maybe z) in
+      rw (class_is M t, a.named) (ap (λ (o : Option ℕ). map_option Act.castclass (and_then o (λ p. some r))) a.is)
 
-pub class_none : (M : Module) (m : Method) (t n r : ℕ) → n ≡ length M.parents → r ≡ row_among n (row_of 2 t) → eqb r 0 ≡ is_none (operands M m (castclass t))
-class_none M m t n r e q =
-    zero_none (operands M m (castclass t)) r (class_lacks M m t n r e q)
-    (λ z. some_there (operands M m (castclass t)) (Act.castclass r) (class_has M m t n r e q z))
+  pub class_none : (b : Bool) → is_some R ≡ not b → b ≡ is_none (operands M m (castclass t))
+  class_none b = missing R b (operands M m (castclass t)) class_lacks (λ r z. some_there (operands M m (castclass t)) (Act.castclass r) (class_has r z))
 
 -- ---- Fields
 
@@ -202,20 +208,15 @@ flag_same false true = refl
 flag_same false false = refl
 
 -- what a test leaves of a row
-pick_zero : (b : Bool) (x r : ℕ) → r ≡ pick b x 0 → r ≡ 0 → (x ≡ 0 → ⊥) → b ≡ false
-unfolding pick
-pick_zero true x r e z h = absurd (h (sym e ∙ z))
-pick_zero false x r e z h = refl
+held_back : (b : Bool) (R : Found ℕ) (x : ℕ) → maybe R ≡ only_if b (some x) → R ≡ None → b ≡ false
+unfolding only_if
+held_back true R x e z = let y = ap maybe z in cc
+held_back false R x e z = refl
 
-pick_row : (b : Bool) (x r : ℕ) → r ≡ pick b x 0 → (r ≡ 0 → ⊥) → (b ≡ true) × (r ≡ x)
-unfolding pick
-pick_row true x r e h = (refl, e)
-pick_row false x r e h = absurd (h e)
-
-at_zero : (b : Bool) (x r : ℕ) → r ≡ pick b x 0 → x ≡ 0 → r ≡ 0
-unfolding pick
-at_zero true x r e z = e ∙ z
-at_zero false x r e z = e
+let_through : (b : Bool) (R : Found ℕ) (x r : ℕ) → maybe R ≡ only_if b (some x) → R ≡ Some r → (b ≡ true) × (r ≡ x)
+unfolding only_if
+let_through true R x r e z = let y = ap maybe z in let w : r ≡ x = cc in (refl, w)
+let_through false R x r e z = let y = ap maybe z in cc
 
 -- zero, or not
 zero_or : (C : Type 0) (x : ℕ) → (x ≡ 0 → C) → ((x ≡ 0 → ⊥) → C) → C
@@ -232,41 +233,49 @@ field_at : (M : Module) (s : Bool) (f : ℕ → Field → Act) (t x : ℕ) (d : 
 unfolding field_of and_then
 field_at M s f t x d e q = rw (e, q) refl
 
-module _ (M : Module) (n : ℕ) (fields : List ℕ) (H : HeldFields M n fields) (s : Bool) (f : ℕ → Field → Act) (t r x : ℕ)
-    (among : x ≡ row_among n (row_of 4 t)) (said : r ≡ pick (eqb (field_cell fields x 1) (flag s)) x 0) where
-  one_field : (x ≡ 0 → ⊥) → Among M.fields n (row_of 4 t)
-  one_field h = one_among M.fields n (row_of 4 t) H.count (λ e. h (among ∙ e))
+module _ (M : Module) (n : ℕ) (fields : List ℕ) (H : HeldFields M n fields) (s : Bool) (f : ℕ → Field → Act) (t : ℕ) (R : Found ℕ)
+    (said : maybe R ≡ and_then (row_among n (row_of 4 t)) (λ r. only_if (eqb (field_cell fields r 1) (flag s)) (some r))) where
+  abbrev right : Field → Bool
+  right d = pick s d.is_static (not d.is_static)
 
-  said_static : (h : x ≡ 0 → ⊥) → r ≡ pick (pick s (one_field h).what.is_static (not (one_field h).what.is_static)) x 0
-  said_static h =
-      said ∙ ap (λ (b : Bool). pick b x 0)
-      (ap (λ (k : ℕ). eqb k (flag s)) (H.static x (one_field h).what (ap (row M.fields) among ∙ (one_field h).is)) ∙ flag_same s
-      (one_field h).what.is_static)
+  module _ (x : ℕ) (q : row_among n (row_of 4 t) ≡ some x) where
+    one_field : Among M.fields (row_of 4 t) x
+    one_field = one_among M.fields n (row_of 4 t) x H.count q
 
-  here : (h : x ≡ 0 → ⊥) → field_of M s f t ≡ only_if (pick s (one_field h).what.is_static (not (one_field h).what.is_static))
-      (some (f x (one_field h).what))
-  here h = field_at M s f t x (one_field h).what ((one_field h).named ∙ ap some (sym among)) (ap (row M.fields) among ∙ (one_field h).is)
+    said_static : maybe R ≡ only_if (right one_field.what) (some x)
+    unfolding and_then
+    said_static =
+        said ∙ rw q (ap (λ (b : Bool). only_if b (some x))
+        (ap (λ (k : ℕ). eqb k (flag s)) (H.static x one_field.what one_field.is) ∙ flag_same s one_field.what.is_static))
 
-  pub field_lacks : r ≡ 0 → field_of M s f t ≡ none
+    here : field_of M s f t ≡ only_if (right one_field.what) (some (f x one_field.what))
+    here = field_at M s f t x one_field.what one_field.named one_field.is
+
+  pub field_lacks : R ≡ None → field_of M s f t ≡ none
   unfolding field_of only_if
-  field_lacks z = zero_or (field_of M s f t ≡ none) x
-      (λ e. none_among M.fields n (row_of 4 t) (λ r d. only_if (pick s d.is_static (not d.is_static)) (some (f r d))) H.count (sym among ∙ e))
-      (λ h. here h ∙ ap (λ (b : Bool). only_if b (some (f x (one_field h).what)))
-      (pick_zero (pick s (one_field h).what.is_static (not (one_field h).what.is_static)) x r (said_static h) z h))
+  field_lacks z = by (row_among n (row_of 4 t)) refl
+    where
+      by : (X : Option ℕ) → row_among n (row_of 4 t) ≡ X → field_of M s f t ≡ none
+      by none q = none_among M.fields n (row_of 4 t) (λ r d. only_if (right d) (some (f r d))) H.count q
+      by (some x) q =
+          here x q ∙ ap (λ (b : Bool). only_if b (some (f x (one_field x q).what))) (held_back (right (one_field x q).what) R x (said_static x q) z)
 
-  pub field_has : (r ≡ 0 → ⊥) → FieldFound M s f t r
-  unfolding only_if
-  field_has z =
-      let h : x ≡ 0 → ⊥ = λ e. z (at_zero (eqb (field_cell fields x 1) (flag s)) x r said e) in
-      let p = pick_row (pick s (one_field h).what.is_static (not (one_field h).what.is_static)) x r (said_static h) z in
-      record {
-        field = (one_field h).what;
-        is = ap (row M.fields) (p.1 ∙ among) ∙ (one_field h).is;
-        found = here h ∙ (ap (λ (b : Bool). only_if b (some (f x (one_field h).what))) p.0 ∙ ap (λ (k : ℕ). some (f k (one_field h).what)) (sym p.1));
-      }
+  pub field_has : (r : ℕ) → R ≡ Some r → FieldFound M s f t r
+  unfolding only_if and_then
+  field_has r z = by (row_among n (row_of 4 t)) refl
+    where
+      by : (X : Option ℕ) → row_among n (row_of 4 t) ≡ X → FieldFound M s f t r
+      by none q = let y : ◌≡◌ {A = Option ℕ} (maybe R) none = said ∙ rw q refl in let w = ap maybe z in cc
+      by (some x) q =
+          let p = let_through (right (one_field x q).what) R x r (said_static x q) z in
+          rw p.1 (record {
+            field = (one_field x q).what;
+            is = (one_field x q).is;
+            found = here x q ∙ ap (λ (b : Bool). only_if b (some (f x (one_field x q).what))) p.0;
+          })
 
-  pub field_none : eqb r 0 ≡ is_none (field_of M s f t)
-  field_none = zero_none (field_of M s f t) r field_lacks (λ z. some_there (field_of M s f t) (f r (field_has z).field) (field_has z).found)
+  pub field_none : (b : Bool) → is_some R ≡ not b → b ≡ is_none (field_of M s f t)
+  field_none b = missing R b (field_of M s f t) field_lacks (λ r z. some_there (field_of M s f t) (f r (field_has r z).field) (field_has r z).found)
 
 -- ---- Methods
 
@@ -295,44 +304,48 @@ method_at_lem : (M : Module) (p : Sort → Bool) (f : ℕ → Method → Act) (t
 unfolding method_of and_then
 method_at_lem M p f t x k e q = rw (e, q) refl
 
-module _ (M : Module) (m : Method) (n : ℕ) (methods : List ℕ) (H : HeldMethods M n methods) (w t r x : ℕ)
-    (among : x ≡ row_among n (row_of 6 t)) (zeroed : x ≡ 0 → r ≡ 0)
-    (said : (s : Sort) → sort_byte s ≡ method_cell methods x 24 → r ≡ pick (may_call w s) x 0) where
-  one_method : (x ≡ 0 → ⊥) → Among M.methods n (row_of 6 t)
-  one_method h = one_among M.methods n (row_of 6 t) H.count (λ e. h (among ∙ e))
+module _ (M : Module) (m : Method) (n : ℕ) (methods : List ℕ) (H : HeldMethods M n methods) (w t : ℕ) (R : Found ℕ)
+    (unnamed : row_among n (row_of 6 t) ≡ none → maybe R ≡ none)
+    (said : (r : ℕ) (s : Sort) → row_among n (row_of 6 t) ≡ some r → sort_byte s ≡ method_cell methods r 24 → maybe R ≡ only_if (may_call w s) (some r)) where
+  module _ (x : ℕ) (q : row_among n (row_of 6 t) ≡ some x) where
+    one_method : Among M.methods (row_of 6 t) x
+    one_method = one_among M.methods n (row_of 6 t) x H.count q
 
-  said_sort : (h : x ≡ 0 → ⊥) → r ≡ pick (may_call w (one_method h).what.sort) x 0
-  said_sort h = said (one_method h).what.sort (sym (H.sort x (one_method h).what (ap (row M.methods) among ∙ (one_method h).is)))
+    said_sort : maybe R ≡ only_if (may_call w one_method.what.sort) (some x)
+    said_sort = said x one_method.what.sort q (sym (H.sort x one_method.what one_method.is))
 
-  there : (h : x ≡ 0 → ⊥) → operands M m (call_by w t) ≡ only_if (may_call w (one_method h).what.sort) (some (act_by w x (one_method h).what))
-  there h =
-      call_is M m w t ∙ method_at_lem M (may_call w) (act_by w) t x (one_method h).what ((one_method h).named ∙ ap some (sym among))
-      (ap (row M.methods) among ∙ (one_method h).is)
+    there : operands M m (call_by w t) ≡ only_if (may_call w one_method.what.sort) (some (act_by w x one_method.what))
+    there = call_is M m w t ∙ method_at_lem M (may_call w) (act_by w) t x one_method.what one_method.named one_method.is
 
-  pub method_lacks : r ≡ 0 → operands M m (call_by w t) ≡ none
+  pub method_lacks : R ≡ None → operands M m (call_by w t) ≡ none
   unfolding method_of only_if
-  method_lacks z = zero_or (operands M m (call_by w t) ≡ none) x
-      (λ e. call_is M m w t ∙ none_among M.methods n (row_of 6 t) (λ r k. only_if (may_call w k.sort) (some (act_by w r k))) H.count (sym among ∙ e))
-      (λ h. there h ∙ ap (λ (b : Bool). only_if b (some (act_by w x (one_method h).what)))
-      (pick_zero (may_call w (one_method h).what.sort) x r (said_sort h) z h))
+  method_lacks z = by (row_among n (row_of 6 t)) refl
+    where
+      by : (X : Option ℕ) → row_among n (row_of 6 t) ≡ X → operands M m (call_by w t) ≡ none
+      by none q = call_is M m w t ∙ none_among M.methods n (row_of 6 t) (λ r k. only_if (may_call w k.sort) (some (act_by w r k))) H.count q
+      by (some x) q =
+          there x q ∙ ap (λ (b : Bool). only_if b (some (act_by w x (one_method x q).what)))
+          (held_back (may_call w (one_method x q).what.sort) R x (said_sort x q) z)
 
-  pub method_has : (r ≡ 0 → ⊥) → MethodFound M m w t r
+  pub method_has : (r : ℕ) → R ≡ Some r → MethodFound M m w t r
   unfolding only_if
-  method_has z =
-      let h : x ≡ 0 → ⊥ = λ e. z (zeroed e) in
-      let p = pick_row (may_call w (one_method h).what.sort) x r (said_sort h) z in
-      record {
-        method = (one_method h).what;
-        is = ap (row M.methods) (p.1 ∙ among) ∙ (one_method h).is;
-        may = p.0;
-        found = there h ∙ (ap (λ (b : Bool). only_if b (some (act_by w x (one_method h).what))) p.0 ∙ ap
-            (λ (k : ℕ). some (act_by w k (one_method h).what)) (sym p.1));
-      }
+  method_has r z = by (row_among n (row_of 6 t)) refl
+    where
+      by : (X : Option ℕ) → row_among n (row_of 6 t) ≡ X → MethodFound M m w t r
+      by none q = let y : ◌≡◌ {A = Option ℕ} (maybe R) none = unnamed q in let v = ap maybe z in cc
+      by (some x) q =
+          let p = let_through (may_call w (one_method x q).what.sort) R x r (said_sort x q) z in
+          rw p.1 (record {
+            method = (one_method x q).what;
+            is = (one_method x q).is;
+            may = p.0;
+            found = there x q ∙ ap (λ (b : Bool). only_if b (some (act_by w x (one_method x q).what))) p.0;
+          })
 
-  pub method_none : eqb r 0 ≡ is_none (operands M m (call_by w t))
-  method_none =
-      zero_none (operands M m (call_by w t)) r method_lacks (λ z. some_there (operands M m (call_by w t)) (act_by w r (method_has z).method)
-      (method_has z).found)
+  pub method_none : (b : Bool) → is_some R ≡ not b → b ≡ is_none (operands M m (call_by w t))
+  method_none b =
+      missing R b (operands M m (call_by w t)) method_lacks
+      (λ r z. some_there (operands M m (call_by w t)) (act_by w r (method_has r z).method) (method_has r z).found)
 
 pub call_effect_lem : (M : Module) (m : Method) (w r : ℕ) (k : Method) (S : Shape) → (w ≡ 2 → ⊥) → w < 3
     → effect M m (act_by w r k) S ≡ called_effect M m (arguments k) k.returns S
@@ -362,9 +375,25 @@ pub types_tail : (l : List ℕ) (from : ℕ) (t : Ty) (us ts : List Ty) → us �
 unfolding at
 types_tail l from t us ts e h i u q = let z : from + 1 + i ≡ from + suc i = omega arith in rw z (h (suc i) u (rw e q))
 
+-- a part of a table that holds types holds them alone
+at_inside : (ts : List Ty) (i : ℕ) (u : Ty) → at ts i ≡ some u → i < length ts
+unfolding at
+at_inside [] i u e = cc
+at_inside (t ∷ ts) zero u e = omega arith
+at_inside (t ∷ ts) (suc i) u e = let k : i < length ts = at_inside ts i u e in omega arith
+
+pub types_part : (l : List ℕ) (from to : ℕ) (ts : List Ty) → Types l from ts → from + length ts ≡ to → Types (slice_range l from to) 0 ts
+types_part l from to ts t e i u q =
+    let k : i < length ts = at_inside ts i u q in
+    let z : from + (0 + i) ≡ from + i = omega arith in
+    get_or-take (to - from) (drop from l) (0 + i) 0 (omega arith) ∙ (get_or-drop from l (0 + i) 0 ∙ (ap (λ (j : ℕ). get_or l j 0) z ∙ t i u q))
+
+pub part_length : (l : List ℕ) (from to : ℕ) (ts : List Ty) → from + length ts ≡ to → to ≤ length l → length ts ≡ length (slice_range l from to)
+part_length l from to ts e h = omega (arith, length-take (to - from) (drop from l), length-drop from l)
+
 -- ---- By group
 
-pub mapped : {A B : Type 0} (P Q : Pool) (r : After) (f : A → Answer ℕ Shape) (g : B → Answer ℕ Shape) (h : A → B) (o : Option A)
+pub mapped : {A B : Type 0} (P Q : Pool) (r : Result ℕ FaultKind) (f : A → Answer ℕ Shape) (g : B → Answer ℕ Shape) (h : A → B) (o : Option A)
     → ((a : A) → g (h a) ≡ f a) → Takes Q r f o × Grown P Q → Takes Q r g (map_option h o) × Grown P Q
 unfolding Takes map_option
 mapped P Q r f g h none e t = t
@@ -416,39 +445,44 @@ field_high P M m g t a x y = by (eqb g 31) refl
 
 -- ---- Rows, as the code finds them
 
-pub token_none : (n : ℕ) (R : Found ℕ) (o : Option ℕ) → maybe R ≡ o → R ≡ None → 0 ≡ row_among n o
-unfolding row_among
-token_none n R o e q = rw (← e, q) refl
+pub token_none : (n : ℕ) (o : Option ℕ) → none ≡ o → none ≡ row_among n o
+unfolding row_among and_then
+token_none n o e = rw (← e) refl
 
-pub token_past : (n x : ℕ) (R : Found ℕ) (o : Option ℕ) → maybe R ≡ o → R ≡ Some x → n < x → 0 ≡ row_among n o
-unfolding row_among pick
-token_past n x R o e q h = rw (← e, q, lt-ltb n x h) refl
+pub token_zero : (n x : ℕ) (o : Option ℕ) → some x ≡ o → x ≡ 0 → none ≡ row_among n o
+unfolding row_among and_then only_if
+token_zero n x o e h = rw (← e, h) refl
 
-pub token_here : (n x : ℕ) (R : Found ℕ) (o : Option ℕ) → maybe R ≡ o → R ≡ Some x → x ≤ n → x ≡ row_among n o
-unfolding row_among pick
-token_here n x R o e q h = rw (← e, q, le-ltb n x h) refl
+pub token_past : (n x : ℕ) (o : Option ℕ) → some x ≡ o → n < x → none ≡ row_among n o
+unfolding row_among and_then only_if
+token_past n x o e h = rw (← e, lt-leb x n h, lt-ltb 0 x (omega arith)) refl
 
-pub flagged : (l : List ℕ) (r x v : ℕ) → r ≡ x → field_cell l r 1 ≡ v → r ≡ pick (eqb (field_cell l x 1) v) x 0
-unfolding pick
-flagged l r x v e h = rw (eq-eqb (field_cell l x 1) v (rw (← e) h)) e
+pub token_here : (n x : ℕ) (o : Option ℕ) → some x ≡ o → (x ≡ 0 → ⊥) → x ≤ n → some x ≡ row_among n o
+unfolding row_among and_then only_if
+token_here n zero o e z h = absurd (z refl)
+token_here n (suc x) o e z h = rw (← e, lt-ltb 0 (suc x) (omega arith), le-leb (suc x) n h) refl
 
-pub unflagged : (l : List ℕ) (r x v : ℕ) → r ≡ x → (field_cell l r 1 ≡ v → ⊥) → 0 ≡ pick (eqb (field_cell l x 1) v) x 0
-unfolding pick
-unflagged l r x v e h = rw (ne_eqb (field_cell l x 1) v (λ z. h (ap (λ (k : ℕ). field_cell l k 1) e ∙ z))) refl
+-- a test leaves a row or none
+pub flagged : (l : List ℕ) (X : Option ℕ) (x v : ℕ) → some x ≡ X
+    → maybe (then_some (eqb (field_cell l x 1) v) x) ≡ and_then X (λ r. only_if (eqb (field_cell l r 1) v) (some r))
+unfolding and_then
+flagged l X x v e = rw (← e) (kept (eqb (field_cell l x 1) v) x)
 
-pub sorted : (b t : Bool) (r x : ℕ) → r ≡ x → b ≡ t → t ≡ true → r ≡ pick b x 0
-unfolding pick
-sorted b t r x e p q = rw (p, q) e
+pub unnamed_none : (X : Option ℕ) (f : ℕ → Option ℕ) → none ≡ X → none ≡ and_then X f
+unfolding and_then
+unnamed_none X f e = rw (← e) refl
 
-pub unsorted : (b t : Bool) (x : ℕ) → b ≡ t → t ≡ false → 0 ≡ pick b x 0
-unfolding pick
-unsorted b t x p q = rw (p, q) refl
+pub same_row : (r x : ℕ) (X : Option ℕ) → some r ≡ X → X ≡ some x → x ≡ r
+same_row r x X e q = cc
+
+pub sorted : (b t : Bool) (r x : ℕ) (X : Option ℕ) → some r ≡ X → X ≡ some x → t ≡ b → maybe (then_some t r) ≡ only_if b (some x)
+sorted b t r x X e q h = let z : r ≡ x = cc in rw (h, z) (kept b x)
 
 pub may_0 : (w v : ℕ) (s : Sort) → w ≡ 0 → sort_byte s ≡ v → not (eqb v 4) ≡ may_call w s
 unfolding may_call pick callable is_sort sort_byte
 may_0 w v s e q = rw (e, ← q) refl
 
-pub may_1 : (w v : ℕ) (s : Sort) → w ≡ 1 → sort_byte s ≡ v → v ≡ 1 → true ≡ may_call w s
+pub may_1 : (w v : ℕ) (s : Sort) → w ≡ 1 → sort_byte s ≡ v → v ≡ 1 → eqb v 1 ≡ may_call w s
 unfolding may_call pick dispatched is_sort sort_byte
 may_1 w v s e q h = rw (e, q, h) refl
 
@@ -478,9 +512,9 @@ numbers_by null R true = refl
 numbers_by (class c) R true = refl
 numbers_by a R false = refl
 
-pub numbers : (M : Module) (m : Method) (S : Shape) → plain_effect M m (binary (number add)) S ≡ binary_effect 0 S
+pub numbers : (M : Module) (m : Method) (S : Shape) → plain_effect M m (binary (number add)) S ≡ binary_effect Numbers S
 unfolding plain_effect binary_effect pop2 ◌>>=◌ binary_of pairs pick
-numbers M m S = both_kinds S (plain_effect M m (binary (number add))) (binary_effect 0) refl (λ b. refl) (λ b a R. numbers_by a R (same (kind a) (kind b)))
+numbers M m S = both_kinds S (plain_effect M m (binary (number add))) (binary_effect Numbers) refl (λ b. refl) (λ b a R. numbers_by a R (same (kind a) (kind b)))
 
 integers_by : (o : Whole) (a : Ty) (R : Shape) (t : Bool) → (need (only_if t (integers_of (λ w. whole_of w o) (kind a))) (check_number wrong_type) >>= λ g. ok
     (g.gives ∷ R)) ≡ (guard (t && is_integer (kind a)) (check_number wrong_type) >>= λ _. ok (a ∷ R))
@@ -492,9 +526,9 @@ integers_by o null R true = refl
 integers_by o (class c) R true = refl
 integers_by o a R false = refl
 
-pub integers : (M : Module) (m : Method) (S : Shape) → plain_effect M m (binary (whole rem)) S ≡ binary_effect 1 S
+pub integers : (M : Module) (m : Method) (S : Shape) → plain_effect M m (binary (whole rem)) S ≡ binary_effect Integers S
 unfolding plain_effect binary_effect pop2 ◌>>=◌ binary_of pairs pick
-integers M m S = both_kinds S (plain_effect M m (binary (whole rem))) (binary_effect 1) refl (λ b. refl) (λ b a R. integers_by rem a R (same (kind a) (kind b)))
+integers M m S = both_kinds S (plain_effect M m (binary (whole rem))) (binary_effect Integers) refl (λ b. refl) (λ b a R. integers_by rem a R (same (kind a) (kind b)))
 
 shifts_by : (a : Ty) (R : Shape) (t : Bool) → (need (only_if t (integers_of (λ w x n. ok (shifted w shl x n)) (kind a))) (check_number wrong_type) >>= λ g. ok
     (g.gives ∷ R)) ≡ (guard (t && is_integer (kind a)) (check_number wrong_type) >>= λ _. ok (a ∷ R))
@@ -506,12 +540,12 @@ shifts_by null R true = refl
 shifts_by (class c) R true = refl
 shifts_by a R false = refl
 
-pub shifts : (M : Module) (m : Method) (S : Shape) → plain_effect M m (binary (shift shl)) S ≡ binary_effect 2 S
+pub shifts : (M : Module) (m : Method) (S : Shape) → plain_effect M m (binary (shift shl)) S ≡ binary_effect Shift S
 unfolding plain_effect binary_effect pop2 ◌>>=◌ binary_of pairs pick
-shifts M m S = both_kinds S (plain_effect M m (binary (shift shl))) (binary_effect 2) refl (λ b. refl) (λ b a R. shifts_by a R (same (kind b) k32))
+shifts M m S = both_kinds S (plain_effect M m (binary (shift shl))) (binary_effect Shift) refl (λ b. refl) (λ b a R. shifts_by a R (same (kind b) k32))
 
 equal_by : (k : Kind) (R : Shape) (t : Bool) → (need (map_option (λ f. record { gives = int32; bits_of = λ x y. ok (flag (f x y)) })
-    (only_if t (relation_of eq k))) (check_number wrong_type) >>= λ (g : Meaning). ok (g.gives ∷ R)) ≡ (guard (t && true) (check_number wrong_type) >>= λ _. ok (int32 ∷ R))
+    (only_if t (relation_of eq k))) (check_number wrong_type) >>= λ (g : Meaning). ok (g.gives ∷ R)) ≡ (guard t (check_number wrong_type) >>= λ _. ok (int32 ∷ R))
 unfolding need map_option only_if relation_of relates_ref guard ◌>>=◌
 equal_by k32 R true = refl
 equal_by k64 R true = refl
@@ -519,9 +553,9 @@ equal_by k_f R true = refl
 equal_by reference R true = refl
 equal_by k R false = refl
 
-pub equals : (M : Module) (m : Method) (S : Shape) → plain_effect M m (binary (compare eq)) S ≡ compare_effect 3 S
+pub equals : (M : Module) (m : Method) (S : Shape) → plain_effect M m (binary (compare eq)) S ≡ compare_effect Alike S
 unfolding plain_effect compare_effect pop2 ◌>>=◌ binary_of comparison pairs pick
-equals M m S = both_kinds S (plain_effect M m (binary (compare eq))) (compare_effect 3) refl (λ b. refl) (λ b a R. equal_by (kind a) R (same (kind a) (kind b)))
+equals M m S = both_kinds S (plain_effect M m (binary (compare eq))) (compare_effect Alike) refl (λ b. refl) (λ b a R. equal_by (kind a) R (same (kind a) (kind b)))
 
 order_by : (k : Kind) (R : Shape) (t : Bool) → (need (map_option (λ f. record { gives = int32; bits_of = λ x y. ok (flag (f x y)) })
     (only_if t (relation_of lt k))) (check_number wrong_type) >>= λ (g : Meaning). ok (g.gives ∷ R))
@@ -533,12 +567,12 @@ order_by k_f R true = refl
 order_by reference R true = refl
 order_by k R false = refl
 
-pub orders : (M : Module) (m : Method) (S : Shape) → plain_effect M m (binary (compare lt)) S ≡ compare_effect 0 S
+pub orders : (M : Module) (m : Method) (S : Shape) → plain_effect M m (binary (compare lt)) S ≡ compare_effect Numbers S
 unfolding plain_effect compare_effect pop2 ◌>>=◌ binary_of comparison pairs pick
-orders M m S = both_kinds S (plain_effect M m (binary (compare lt))) (compare_effect 0) refl (λ b. refl) (λ b a R. order_by (kind a) R (same (kind a) (kind b)))
+orders M m S = both_kinds S (plain_effect M m (binary (compare lt))) (compare_effect Numbers) refl (λ b. refl) (λ b a R. order_by (kind a) R (same (kind a) (kind b)))
 
 -- an answer for the group's number
-pub grouped : (P Q : Pool) (r : After) (M : Module) (m : Method) (S : Shape) (op n g k : ℕ) → g ≡ k
+pub grouped : (P Q : Pool) (r : Result ℕ FaultKind) (M : Module) (m : Method) (S : Shape) (op n g k : ℕ) → g ≡ k
     → Takes Q r (λ a. effect M m a S) (operands M m (plain_by k op n)) × Grown P Q
     → Takes Q r (λ a. effect M m a S) (operands M m (plain_by g op n)) × Grown P Q
 grouped P Q r M m S op n g k e h = rw e h

@@ -5,8 +5,7 @@ use Rattle.model.specs.Answer.{pick}
 use Rattle.model.specs.Tables.{int32, int64, F, null, Sort}
 use Rattle.model.specs.Code.{Ins, plain, nop, pop, dup, ret, ldc, binary, unary, number, add, whole, rem, shift, shl, compare, eq, lt, ldarg, starg, ldloc}
 use Rattle.model.specs.Code.{stloc, jump, Jump, always, iftrue, when, call, callvirt, newobj, castclass, ldfld, stfld, ldsfld, stsfld, target, callable}
-use Rattle.model.specs.Code.{dispatched, constructs}
-use Rattle.shapes.specs.Kinds.{unary_by}
+use Rattle.model.specs.Code.{dispatched, constructs, Unary, neg, not_bits, conv_i4, conv_i8, conv_r8}
 
 -- the group of each first byte
 unfoldable pub groups : List ℕ
@@ -52,6 +51,10 @@ may_call w s = pick (eqb w 0) (callable s) (pick (eqb w 1) (dispatched s) (const
 
 unfoldable pub field_by : ℕ → ℕ → Ins
 field_by g t = pick (eqb g 29) (ldfld t) (pick (eqb g 30) (stfld t) (pick (eqb g 31) (ldsfld t) (stsfld t)))
+
+-- the operators of one operand
+unfoldable pub unary_by : ℕ → Unary
+unary_by g = pick (eqb g 19) neg (pick (eqb g 23) conv_r8 (pick (eqb g 20) not_bits (pick (eqb g 21) conv_i4 conv_i8)))
 
 -- an instruction of a group without tokens, by opcode and operand
 unfoldable pub plain_by : ℕ → ℕ → ℕ → Ins

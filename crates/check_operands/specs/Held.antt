@@ -1,23 +1,23 @@
 -- What the arrays of the tables hold of a module, as far as the check reads them.
-use Rattle.std.specs.Prelude.{ℕ, ◌+◌, ◌*◌, ◌≤◌, ◌<◌, ◌≡◌, List, length, ltb}
+use Rattle.std.specs.Prelude.{ℕ, ◌+◌, ◌*◌, ◌≤◌, ◌<◌, ◌≡◌, List, length, ltb, leb, ◌&&◌, Option as Found, None, Some}
 use Rattle.std.proofs.Math.Option.{Option, none, some}
-use Rattle.model.specs.Answer.{pick, row}
+use Rattle.model.specs.Answer.{only_if, row}
 use Rattle.model.specs.Tables.{Ty, byte_of, sort_byte, Field, Method, Module, arguments}
+use Rattle.model.specs.Code.{and_then}
 use Rattle.model.specs.Operators.{flag}
 use Rattle.ancestor.specs.Parents.{Parents}
 use Rattle.loaded.specs.declared.Counts.{Counts}
 use Rattle.loaded.specs.Holds.{method_cell, field_cell}
 use Rattle.shapes.specs.Effects.{Due, Types}
 
--- a type's byte; above 255 where there is none
-unfoldable pub Typed : ℕ → Option Ty → Type 0
-Typed r none = 255 < r
-Typed r (some t) = (byte_of t ≡ r) × (r < 256)
+-- a type's byte, if there is one
+unfoldable pub Typed : Found ℕ → Option Ty → Type 0
+Typed r none = r ≡ None
+Typed r (some t) = r ≡ Some (byte_of t)
 
--- the row that a token names among n, 0 where it names none
-unfoldable pub row_among : ℕ → Option ℕ → ℕ
-row_among n none = 0
-row_among n (some r) = pick (ltb n r) 0 r
+-- the row that a token names among n, which count from 1
+unfoldable pub row_among : ℕ → Option ℕ → Option ℕ
+row_among n o = and_then o (λ r. only_if (ltb 0 r && leb r n) (some r))
 
 pub record HeldClasses (M : Module) (n : ℕ) (parents : List ℕ) : Type 0 where
   pub count : n ≡ length M.parents

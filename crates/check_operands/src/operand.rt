@@ -1,8 +1,10 @@
 // Operands: declared types of arguments and locals, and the rows of tokens.
-ghost use Rattle.std.specs.Prelude.{◌≡◌, List, ℕ, ◌+◌, ◌*◌, ◌≤◌, ◌<◌, length, eqb};
-ghost use Rattle.model.specs.Answer.{pick, at, is_none};
+ghost use Rattle.std.specs.Prelude.{◌≡◌, List, ℕ, ◌+◌, ◌*◌, ◌≤◌, ◌<◌, length, eqb, IfSome};
+ghost use Rattle.std.proofs.Math.Option.{none, some};
+ghost use Rattle.model.specs.Answer.{at, is_none, only_if};
 ghost use Rattle.model.specs.Tables.{Ty, Sort, sort_byte, Method, Module};
-ghost use Rattle.model.specs.Code.{row_of, operands};
+ghost use Rattle.model.specs.Code.{row_of, operands, and_then};
+ghost use Rattle.code.specs.Operand.{maybe};
 ghost use Rattle.loaded.specs.Holds.{method_cell, field_cell};
 ghost use Rattle.shapes.specs.Effects.{Types};
 ghost use Rattle.check_operands.specs.Groups.{may_call, plain_by};
@@ -10,12 +12,6 @@ ghost use Rattle.check_operands.specs.Held.{Typed, Own, row_among};
 
 use code::operand::row_of;
 use loaded::columns::{ARGUMENT_COUNT, FIELD, LOCAL_COUNT, LOCALS, METHOD, SORT, STATIC};
-use shapes::fit::wide;
-
-// Types are bytes; what comes after the last is none.
-pub const LAST_TYPE: usize = 255;
-
-const NO_TYPE: usize = 256;
 
 pub const MOST_LOCALS: usize = 16;
 
@@ -53,7 +49,7 @@ const FIELDS: usize = 128;
 
 const METHODS: usize = 128;
 
-// The type of an argument or local of a method, 256 where it has none of that number.
+// The type of an argument or local of a method, if it has one of that number.
 pub fn declared(
     methods: &[u8; 4128],
     row: usize,
@@ -61,22 +57,18 @@ pub fn declared(
     from: usize,
     most: usize,
     i: usize,
-) -> usize
+) -> Option<u8>
     requires row_below { row < 129 }
     requires column_below { column < 32 }
     requires from_at_most { from + most ≤ 24 }
     ensures { (ts : List Ty) → method_cell methods.now row column ≡ length ts → length ts ≤ most →
         Types methods.now (row * 32 + from) ts → Typed result (at ts i) }
 {
-    if most <= i {
-        return NO_TYPE;
+    let start = row * METHOD;
+    if most.min(methods[start + column] as usize) <= i {
+        return None;
     }
-    let count = row * METHOD + column;
-    if wide(methods[count]) <= i {
-        return NO_TYPE;
-    }
-    let at = row * METHOD + from + i;
-    wide(methods[at])
+    Some(methods[start + from + i])
 }
 
 // Whether an instruction is on an argument or local that the method does not have.
@@ -86,83 +78,67 @@ pub fn undeclared(methods: &[u8; 4128], row: usize, g: u8, op: usize, n: usize) 
     ensures { (M : Module) (m : Method) (max due : ℕ) → Own m row max due methods.now → result ≡ is_none (operands M m (plain_by g op n)) }
 {
     match g {
-        8 => LAST_TYPE < declared(methods, row, ARGUMENT_COUNT, 0, LOCALS, (op + 2) % 4),
-        9 => LAST_TYPE < declared(methods, row, ARGUMENT_COUNT, 0, LOCALS, n),
-        10 => LAST_TYPE < declared(methods, row, ARGUMENT_COUNT, 0, LOCALS, n),
-        11 => LAST_TYPE < declared(methods, row, LOCAL_COUNT, LOCALS, MOST_LOCALS, (op + 2) % 4),
-        12 => LAST_TYPE < declared(methods, row, LOCAL_COUNT, LOCALS, MOST_LOCALS, (op + 2) % 4),
-        13 => LAST_TYPE < declared(methods, row, LOCAL_COUNT, LOCALS, MOST_LOCALS, n),
-        14 => LAST_TYPE < declared(methods, row, LOCAL_COUNT, LOCALS, MOST_LOCALS, n),
+        8 => declared(methods, row, ARGUMENT_COUNT, 0, LOCALS, (op + 2) % 4).is_none(),
+        9 => declared(methods, row, ARGUMENT_COUNT, 0, LOCALS, n).is_none(),
+        10 => declared(methods, row, ARGUMENT_COUNT, 0, LOCALS, n).is_none(),
+        11 => declared(methods, row, LOCAL_COUNT, LOCALS, MOST_LOCALS, (op + 2) % 4).is_none(),
+        12 => declared(methods, row, LOCAL_COUNT, LOCALS, MOST_LOCALS, (op + 2) % 4).is_none(),
+        13 => declared(methods, row, LOCAL_COUNT, LOCALS, MOST_LOCALS, n).is_none(),
+        14 => declared(methods, row, LOCAL_COUNT, LOCALS, MOST_LOCALS, n).is_none(),
         _ => false,
     }
 }
 
-// The row of a token of a kind among n rows, 0 where it is none of them.
-fn token_row(kind: u8, token: u64, n: usize, most: usize) -> usize
-    ensures result_at_most { result ≤ most }
-    ensures as_model { (n ≤ most → result ≡ row_among n (row_of kind token)) }
+// The row of a token of a kind among n rows.
+fn token_row(kind: u8, token: u64, n: usize, most: usize) -> Option<usize>
+    ensures result_at_most { IfSome result (λ r. r ≤ most) }
+    ensures as_model { n ≤ most → maybe result ≡ row_among n (row_of kind token) }
 {
-    match row_of(kind, token) {
-        None => 0,
-        Some(r) => {
-            if n < r {
-                return 0;
-            }
-            if most < r {
-                return 0;
-            }
-            r
-        }
+    let r = row_of(kind, token)?;
+    if r == 0 {
+        return None;
     }
+    if n.min(most) < r {
+        return None;
+    }
+    Some(r)
 }
 
-pub fn class_row(classes: usize, token: u64) -> usize
-    ensures { (result ≤ 32) × ((classes ≤ 32 → result ≡ row_among classes (row_of 2 token))) }
+pub fn class_row(classes: usize, token: u64) -> Option<usize>
+    ensures result_at_most { IfSome result (λ r. r ≤ 32) }
+    ensures as_model { classes ≤ 32 → maybe result ≡ row_among classes (row_of 2 token) }
 {
     token_row(CLASS_TOKEN, token, classes, CLASSES)
 }
 
-// The row of a field that is static or not as `flag` says, or 0.
-pub fn field_row(count: usize, fields: &[u8; 516], token: u64, flag: u8) -> usize
-    ensures result_at_most { result ≤ 128 }
-    ensures as_model { (count ≤ 128 → result ≡ pick (eqb (field_cell
-        fields.now (row_among count (row_of 4 token)) 1) flag) (row_among count (row_of 4 token)) 0) }
+// The row of a field that is static or not as `flag` says.
+pub fn field_row(count: usize, fields: &[u8; 516], token: u64, flag: u8) -> Option<usize>
+    ensures result_at_most { IfSome result (λ r. r ≤ 128) }
+    ensures as_model { count ≤ 128 → maybe result ≡ and_then (row_among count (row_of 4 token))
+        (λ r. only_if (eqb (field_cell fields.now r 1) flag) (some r)) }
 {
-    let r = token_row(FIELD_TOKEN, token, count, FIELDS);
-    let at = r * FIELD + STATIC;
-    if fields[at] == flag {
-        return r;
-    }
-    0
+    let r = token_row(FIELD_TOKEN, token, count, FIELDS)?;
+    (fields[r * FIELD + STATIC] == flag).then_some(r)
 }
 
 // Whether an instruction may call a method of a sort: 0 call, 1 callvirt, 2 newobj.
 fn may_call(which: u8, sort: u8) -> bool
     ensures { (s : Sort) → sort_byte s ≡ sort → result ≡ may_call which s }
 {
-    if which == DIRECT {
-        return sort != INITIALISER;
+    match which {
+        DIRECT => sort != INITIALISER,
+        VIRTUAL => sort == INSTANCE_METHOD || sort == VIRTUAL_METHOD,
+        _ => sort == CONSTRUCTOR,
     }
-    if which == VIRTUAL {
-        if sort == INSTANCE_METHOD {
-            return true;
-        }
-        return sort == VIRTUAL_METHOD;
-    }
-    sort == CONSTRUCTOR
 }
 
-// The row of a method that an instruction may call, or 0.
-pub fn method_row(count: usize, methods: &[u8; 4128], token: u64, which: u8) -> usize
-    ensures result_at_most { result ≤ 128 }
-    ensures as_model { ((s : Sort) → count ≤ 128 → sort_byte s ≡ method_cell methods.now (row_among count (row_of 6 token)) 24 →
-        result ≡ pick (may_call which s) (row_among count (row_of 6 token)) 0) }
-    ensures as_model_3 { (count ≤ 128 → row_among count (row_of 6 token) ≡ 0 → result ≡ 0) }
+// The row of a method that an instruction may call.
+pub fn method_row(count: usize, methods: &[u8; 4128], token: u64, which: u8) -> Option<usize>
+    ensures result_at_most { IfSome result (λ r. r ≤ 128) }
+    ensures as_model { (r : ℕ) (s : Sort) → count ≤ 128 → row_among count (row_of 6 token) ≡ some r →
+        sort_byte s ≡ method_cell methods.now r 24 → maybe result ≡ only_if (may_call which s) (some r) }
+    ensures none { count ≤ 128 → row_among count (row_of 6 token) ≡ none → maybe result ≡ none }
 {
-    let r = token_row(METHOD_TOKEN, token, count, METHODS);
-    let at = r * METHOD + SORT;
-    if may_call(which, methods[at]) {
-        return r;
-    }
-    0
+    let r = token_row(METHOD_TOKEN, token, count, METHODS)?;
+    may_call(which, methods[r * METHOD + SORT]).then_some(r)
 }

@@ -11,7 +11,8 @@ use Rattle.model.specs.Answer.{ok, or_else, at, row}
 use Rattle.model.specs.Tables.{byte_of, Method, Module}
 use Rattle.model.specs.Check.{Shape, Shapes, check_method, check_methods, check_module, found_at}
 use Rattle.model.proofs.Hoare.{ok_eq, bind_inv, blame_inv}
-use Rattle.shapes.specs.Pool.{Pool, Fine, Shows}
+use Rattle.shapes.specs.declared.shape.Pool.{Pool}
+use Rattle.shapes.specs.Pool.{Fine, Shows}
 use Rattle.shapes.proofs.Showing.{height}
 use Rattle.shapes.proofs.Replies.{one}
 use Rattle.visits.specs.Found.{Kept}

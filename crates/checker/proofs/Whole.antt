@@ -16,10 +16,10 @@ use Rattle.loaded.specs.declared.Loaded.{Loaded}
 use Rattle.loaded.specs.Holds.{byte_at, from_row, method_cell, part_length, Holds}
 use Rattle.shapes.specs.Effects.{Gives, Types}
 use Rattle.check_operands.specs.Held.{HeldClasses, HeldFields, HeldMethods, Held}
-use Rattle.shapes.specs.Pool.{Pool}
-use Rattle.visits.specs.declared.fault.FaultKind.{FaultKind}
-use Rattle.visits.specs.declared.fault.FaultKind.TheVariants.{Undecodable, Operand, TooFew, TooMany, WrongType, OtherShape, FallsPast}
-use Rattle.visits.specs.Faults.{number}
+use Rattle.shapes.specs.declared.shape.Pool.{Pool}
+use Rattle.shapes.specs.declared.fault.FaultKind.{FaultKind}
+use Rattle.shapes.specs.declared.fault.FaultKind.TheVariants.{Undecodable, Operand, TooFew, TooMany, WrongType, OtherShape, FallsPast}
+use Rattle.shapes.specs.Faults.{number}
 use Rattle.visits.specs.Notes.{Ready}
 use Rattle.passes.specs.declared.pass.FaultAt.{FaultAt}
 use Rattle.passes.specs.Fused.{Tells, Passing}

@@ -7,7 +7,7 @@ ghost use Rattle.model.specs.Answer.{row as row_in};
 ghost use Rattle.model.specs.Tables.{Method, Module};
 ghost use Rattle.model.specs.Check.{check_method, check_module};
 ghost use Rattle.loaded.specs.Holds.{Holds};
-ghost use Rattle.visits.specs.Notes.{Ready, seen};
+ghost use Rattle.visits.specs.Notes.{Ready};
 ghost use Rattle.passes.specs.Fused.{Tells, Passing};
 ghost use Rattle.checker.specs.Answers.{Answers};
 ghost use Rattle.checker.specs.Bounded.{Bounded};
@@ -48,8 +48,8 @@ fn method_at(
 ) -> Result<(), FaultAt>
     requires { row ≤ 128 }
     ensures { (M : Module) (m : Method) → Bounded M → Holds M code.now loaded.now → row_in M.methods row ≡ some m →
-        Ready notes.old.found (seen notes.old.pool) → Tells result (check_method M m) ×
-        (result ≡ Ok tt → Passing (check_method M m) (length m.code) notes.new.found (seen notes.new.pool)) }
+        Ready notes.old.found notes.old.pool → Tells result (check_method M m) ×
+        (result ≡ Ok tt → Passing (check_method M m) (length m.code) notes.new.found notes.new.pool) }
 {
     let offset = row * PART + OFFSET;
     let size = row * PART + LENGTH;

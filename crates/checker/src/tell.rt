@@ -7,16 +7,14 @@ ghost use Rattle.model.specs.Check.{Shape, Shapes, check_module, found_at};
 ghost use Rattle.loaded.specs.Holds.{Holds};
 ghost use Rattle.shapes.specs.Pool.{Fine, Shows};
 ghost use Rattle.visits.specs.Found.{Kept};
-ghost use Rattle.visits.specs.Notes.{seen};
 ghost use Rattle.checker.specs.Bounded.{Bounded};
 ghost use Rattle.checker.specs.Told.{told};
 
 use super::{MOST_METHODS, method_at};
 use loaded::Loaded;
 use loaded::columns::{LENGTH, PART};
-use shapes::fit::wide;
-use shapes::shape::below;
-use visits::notes::{Notes, Pool};
+use shapes::shape::Pool;
+use visits::notes::Notes;
 use visits::tables::Tables;
 use visits::visit;
 
@@ -33,9 +31,9 @@ pub struct Found {
 // The types of a shape, from the top down.
 fn types_of(pool: &Pool, s: usize) -> Option<Found>
     requires { s < 2048 }
-    ensures { (S : Shape) → Fine (seen pool.now) → Shows (seen pool.now) S s → length S ≤ 32 → result ≡ told (some S) }
+    ensures { (S : Shape) → Fine pool.now → Shows pool.now S s → length S ≤ 32 → result ≡ told (some S) }
 {
-    let depth = wide(pool.heights[s]);
+    let depth = pool.heights[s] as usize;
     if MOST_STACK < depth {
         return None;
     }
@@ -43,14 +41,14 @@ fn types_of(pool: &Pool, s: usize) -> Option<Found>
     let mut x = s;
     for n in (0..depth).rev() {
         types[n] = pool.tops[x];
-        x = below(&pool.belows, x);
+        x = pool.below(x);
     }
     Some(Found { depth, types })
 }
 
 // The shape found at an offset of a method of a size.
 fn found_at(notes: &Notes, size: usize, offset: usize) -> Option<Found>
-    ensures { (F : Shapes) → size ≤ 1024 → Fine (seen notes.now.pool) → Kept (seen notes.now.pool) size F notes.now.found →
+    ensures { (F : Shapes) → size ≤ 1024 → Fine notes.now.pool → Kept notes.now.pool size F notes.now.found →
         ((S : Shape) → get_or F offset none ≡ some S → length S ≤ 32) → result ≡ told (get_or F offset none) }
 {
     if size <= offset {

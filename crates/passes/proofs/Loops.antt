@@ -18,10 +18,11 @@ use Rattle.code.specs.declared.insn.Insn.{Insn}
 use Rattle.code.specs.Insn.{ins_of, size_at}
 use Rattle.code.proofs.Sizes.{Decodes, a_size}
 use Rattle.std.specs.Prelude.{Result, Ok, Err, ⊤}
-use Rattle.shapes.specs.Pool.{Pool, Fine}
-use Rattle.visits.specs.declared.fault.FaultKind.{FaultKind}
-use Rattle.visits.specs.declared.fault.FaultKind.TheVariants.{Undecodable, Operand}
-use Rattle.visits.specs.Faults.{number}
+use Rattle.shapes.specs.declared.shape.Pool.{Pool}
+use Rattle.shapes.specs.Pool.{Fine}
+use Rattle.shapes.specs.declared.fault.FaultKind.{FaultKind}
+use Rattle.shapes.specs.declared.fault.FaultKind.TheVariants.{Undecodable, Operand}
+use Rattle.shapes.specs.Faults.{number}
 use Rattle.passes.specs.declared.pass.FaultAt.{FaultAt}
 use Rattle.visits.specs.Found.{Stands, Kept, Starts, Went, WentBy}
 use Rattle.passes.specs.Fused.{onward, Tells, Late, Sizes, Scanned, Rest, Reading, Passing, nothing}

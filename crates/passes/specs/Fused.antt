@@ -7,9 +7,10 @@ use Rattle.model.specs.Loading.{Refusal, refusal}
 use Rattle.model.specs.Code.{Ins}
 use Rattle.model.specs.Check.{Shapes, Site, starts, find_operands, visits, decode_from}
 use Rattle.code.specs.Insn.{size_at}
-use Rattle.shapes.specs.Pool.{Pool, Fine}
-use Rattle.visits.specs.declared.fault.FaultKind.TheVariants.{Operand}
-use Rattle.visits.specs.Faults.{number}
+use Rattle.shapes.specs.declared.shape.Pool.{Pool}
+use Rattle.shapes.specs.Pool.{Fine}
+use Rattle.shapes.specs.declared.fault.FaultKind.TheVariants.{Operand}
+use Rattle.shapes.specs.Faults.{number}
 use Rattle.visits.specs.Found.{Starts, Kept}
 use Rattle.passes.specs.declared.pass.FaultAt.{FaultAt}
 

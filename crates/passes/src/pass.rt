@@ -7,16 +7,15 @@ ghost use Rattle.model.specs.Check.{Site, decode_from, find_operands, check_meth
 ghost use Rattle.code.specs.Lengths.{Lengths};
 ghost use Rattle.shapes.specs.Pool.{pool, Fine};
 ghost use Rattle.check_operands.specs.Held.{Held};
-ghost use Rattle.visits.specs.Faults.{number};
+ghost use Rattle.shapes.specs.Faults.{number};
 ghost use Rattle.visits.specs.Found.{Starts, Kept};
-ghost use Rattle.visits.specs.Notes.{Ready, seen};
+ghost use Rattle.visits.specs.Notes.{Ready};
 ghost use Rattle.passes.specs.Fused.{onward, Tells, Late, Cleared, Scanned, Rest, Reading, Passing, nothing};
 
 use code::decode::{known, size_at};
 use loaded::{Fault, Loaded};
-use shapes::fit::wide;
+use shapes::fault::FaultKind;
 use shapes::shape::FIRST;
-use visits::fault::FaultKind;
 use visits::instruction::{refused, visit};
 use visits::notes::{Body, Notes};
 use visits::tables::Tables;
@@ -49,7 +48,7 @@ fn clear(notes: &mut Notes, n: usize)
     requires { n ≤ 1024 }
     ensures cleared { Cleared n notes.old.starts notes.new.starts }
     ensures found_cleared { Cleared n notes.old.found notes.new.found }
-    ensures made { seen notes.new.pool ≡ pool notes.old.pool.tops notes.old.pool.belows notes.old.pool.heights 2 }
+    ensures made { notes.new.pool ≡ pool notes.old.pool.tops notes.old.pool.belows notes.old.pool.heights 2 }
 {
     notes.starts[..n].fill(0);
     notes.found[..n].fill(0);
@@ -101,7 +100,7 @@ fn late(
     let mut at = from;
     // Stays: a step is as long as its instruction, which no range says.
     while at < code.len() {
-        let i = known(code, at, wide(starts[at]));
+        let i = known(code, at, starts[at] as usize);
         if refused(
             &tables.groups,
             loaded.counts,
@@ -138,16 +137,16 @@ fn pass(
     ensures { (M : Module) (m : Method) (all : List (Site Ins)) →
         Held M m loaded.now.counts row max loaded.now.parents loaded.now.fields loaded.now.methods →
         m.code ≡ code.now → Starts all (length code.now) notes.old.starts → decode_from (length code.now) code.now 0 ≡ ok all →
-        Fine (seen notes.old.pool) → Kept (seen notes.old.pool) (length code.now) (nothing (length code.now)) notes.old.found →
+        Fine notes.old.pool → Kept notes.old.pool (length code.now) (nothing (length code.now)) notes.old.found →
         Tells result (onward M m all all (nothing (length code.now))) ×
-        (result ≡ Ok tt → Passing (onward M m all all (nothing (length code.now))) (length code.now) notes.new.found (seen notes.new.pool)) }
+        (result ≡ Ok tt → Passing (onward M m all all (nothing (length code.now))) (length code.now) notes.new.found notes.new.pool) }
 {
     let size = code.len();
     let body = Body { row, max, size };
     let mut at = 0;
     // Stays: a step is as long as its instruction, which no range says.
     while at < size {
-        let i = known(code, at, wide(notes.starts[at]));
+        let i = known(code, at, notes.starts[at] as usize);
         if let Err(kind) = visit(loaded, tables, body, notes, at, i) {
             let fault = FaultAt { kind, offset: at };
             match kind {
@@ -172,9 +171,9 @@ pub fn method(
     requires row_below { row < 129 }
     ensures { (M : Module) (m : Method) →
         Held M m loaded.now.counts row max loaded.now.parents loaded.now.fields loaded.now.methods → m.code ≡ code.now →
-        length code.now ≤ 1024 → Ready notes.old.found (seen notes.old.pool) →
+        length code.now ≤ 1024 → Ready notes.old.found notes.old.pool →
         Tells result (check_method M m) ×
-        (result ≡ Ok tt → Passing (check_method M m) (length code.now) notes.new.found (seen notes.new.pool)) }
+        (result ≡ Ok tt → Passing (check_method M m) (length code.now) notes.new.found notes.new.pool) }
 {
     if MOST_CODE < code.len() {
         return Ok(());

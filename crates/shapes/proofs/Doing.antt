@@ -1,23 +1,23 @@
 -- What the effects answer, by their tests.
 use Prim.Native.Nat.{ℕ, zero, suc, ◌+◌, ◌-◌, ◌≤◌, ◌<◌}
-use mathlib.Core.Path.{◌≡◌, refl, sym, ap, ◌∙◌, subst}
+use mathlib.Core.Path.{◌≡◌, refl, sym, ap, ◌∙◌}
 use mathlib.Core.Bool.{Bool, true, false, ◌&&◌}
 use mathlib.Core.Option.{Option, none, some}
 use mathlib.Core.List.{List, [], ◌∷◌, ◌++◌, append_assoc}
 use native.Mathlib.Omega.{arith}
-use borrow.Author.Tests.{eq-eqb, ne_eqb, lt-leb, le-leb}
-use lib.Dec.{eqb, leb}
+use borrow.Author.Tests.{lt-leb, le-leb}
+use lib.Dec.{leb}
 use lib.ListN.{length, get_or, drop, take, length-append}
-use Rattle.model.specs.Answer.{Answer, bad, ok, ◌>>=◌, guard, need, pick, is_nil, at}
-use Rattle.model.specs.Tables.{Ty, int32, int64, F, class, byte_of, Field, Method, Module, as_list, due}
-use Rattle.model.specs.Code.{pop, dup, ret, unary, Unary, neg, not_bits, conv_i4, conv_i8, conv_r8, Act}
-use Rattle.model.specs.Operators.{fits, Kind, k32, k64, k_f, reference, kind, kind_number, same, testable, unary_of, conversion, neg_of, not_of, conv4_of}
-use Rattle.model.specs.Operators.{conv8_of, conv_fOf}
+use Rattle.model.specs.Answer.{Answer, bad, ok, ◌>>=◌, guard, need, map_option, is_nil, at}
+use Rattle.model.specs.Tables.{Ty, int32, class, byte_of, Field, Method, Module, as_list, due}
+use Rattle.model.specs.Code.{pop, dup, ret, unary, Unary, Act}
+use Rattle.model.specs.Operators.{fits, k_f, reference, kind, same, testable, Conversion, unary_of}
 use Rattle.model.specs.State.{wrong_type, pops, pop1, pop2, room, fit_all, firsts, check_number}
 use Rattle.model.specs.Check.{Shape, pops_one, pushes, plain_effect, test_effect, cast_effect, effect}
-use Rattle.shapes.specs.Kinds.{pairs, given_by}
-use Rattle.shapes.specs.Pool.{Pool, Shows}
-use Rattle.shapes.specs.declared.effect.Popped.{Popped}
+use Rattle.shapes.specs.Kinds.{pairs, given}
+use Rattle.shapes.specs.Pool.{Pool, Shows, Agrees}
+use Rattle.std.specs.Prelude.{Option as Found, None, Some, Ok}
+use Rattle.shapes.specs.declared.kind.Pair.{Pair}
 use Rattle.shapes.specs.Effects.{binary_effect, compare_effect, when_effect, called_effect, Gives, Pops}
 use Rattle.shapes.proofs.Showing.{height}
 
@@ -64,19 +64,21 @@ pub store_wrong : (M : Module) (u t : Ty) (S R : Shape) → S ≡ t ∷ R → fa
 unfolding pops_one pops guard ◌>>=◌ fit_all firsts
 store_wrong M u t S R e h = rw (e, one_left (length R), ← h)
 
-pub ldfld_few : (M : Module) (m : Method) (d : Field) → effect M m (Act.ldfld 0 d) [] ≡ bad 13
-unfolding effect ◌>>=◌
-ldfld_few M m d = rw (store_few M (class d.owner))
+pub one_less : (M : Module) (u : Ty) (S R : Shape) → pops_one M u S ≡ ok R → length S ≡ suc (length R)
+one_less M u [] R e = let z = store_few M u in cc
+one_less M u (t ∷ S) R e = by (fits M.parents t u) refl
+  where
+    by : (b : Bool) → fits M.parents t u ≡ b → suc (length S) ≡ suc (length R)
+    by true q = let z = store_right M u t (t ∷ S) S refl (sym q) in let y : S ≡ R = cc in ap (λ (l : Shape). suc (length l)) y
+    by false q = let z = store_wrong M u t (t ∷ S) S refl (sym q) in cc
 
-pub ldfld_right : (M : Module) (m : Method) (d : Field) (t : Ty) (S R : Shape) → S ≡ t ∷ R → true ≡ fits M.parents t (class d.owner)
-    → effect M m (Act.ldfld 0 d) S ≡ ok (d.type ∷ R)
+pub ldfld_bad : (M : Module) (m : Method) (d : Field) (S : Shape) (k : ℕ) → pops_one M (class d.owner) S ≡ bad k → effect M m (Act.ldfld 0 d) S ≡ bad k
 unfolding effect ◌>>=◌
-ldfld_right M m d t S R e h = rw (store_right M (class d.owner) t S R e h)
+ldfld_bad M m d S k e = rw e
 
-pub ldfld_wrong : (M : Module) (m : Method) (d : Field) (t : Ty) (S R : Shape) → S ≡ t ∷ R → false ≡ fits M.parents t (class d.owner)
-    → effect M m (Act.ldfld 0 d) S ≡ bad 15
+pub ldfld_right : (M : Module) (m : Method) (d : Field) (S R : Shape) → pops_one M (class d.owner) S ≡ ok R → effect M m (Act.ldfld 0 d) S ≡ ok (d.type ∷ R)
 unfolding effect ◌>>=◌
-ldfld_wrong M m d t S R e h = rw (store_wrong M (class d.owner) t S R e h)
+ldfld_right M m d S R e = rw e
 
 pub stfld_few : (M : Module) (m : Method) (d : Field) → effect M m (Act.stfld 0 d) [] ≡ bad 13
 unfolding effect ◌>>=◌ pops guard
@@ -110,144 +112,115 @@ pub cast_few : (c : ℕ) → cast_effect c [] ≡ bad 13
 unfolding cast_effect pop1 ◌>>=◌
 cast_few c = refl
 
-pub cast_right : (c : ℕ) (t : Ty) (S R : Shape) → S ≡ t ∷ R → 0 ≡ kind_number (kind t) → cast_effect c S ≡ ok (class c ∷ R)
-unfolding cast_effect pop1 ◌>>=◌ guard same kind_number
-cast_right c t S R e h = rw (e, eq-eqb (kind_number (kind t)) 0 (sym h))
+pub cast_right : (c : ℕ) (t : Ty) (S R : Shape) → S ≡ t ∷ R → true ≡ same (kind t) reference → cast_effect c S ≡ ok (class c ∷ R)
+unfolding cast_effect pop1 ◌>>=◌ guard
+cast_right c t S R e h = rw (e, ← h) refl
 
-pub cast_wrong : (c : ℕ) (t : Ty) (S R : Shape) → S ≡ t ∷ R → (kind_number (kind t) ≡ 0 → ⊥) → cast_effect c S ≡ bad 15
-unfolding cast_effect pop1 ◌>>=◌ guard same kind_number
-cast_wrong c t S R e h = rw (e, ne_eqb (kind_number (kind t)) 0 h)
+pub cast_wrong : (c : ℕ) (t : Ty) (S R : Shape) → S ≡ t ∷ R → false ≡ same (kind t) reference → cast_effect c S ≡ bad 15
+unfolding cast_effect pop1 ◌>>=◌ guard
+cast_wrong c t S R e h = rw (e, ← h) refl
 
 pub test_few : test_effect [] ≡ bad 13
 unfolding test_effect pop1 ◌>>=◌
 test_few = refl
 
-pub test_right : (t : Ty) (S R : Shape) → S ≡ t ∷ R → (kind_number (kind t) ≡ 3 → ⊥) → test_effect S ≡ ok R
-unfolding test_effect pop1 ◌>>=◌ guard testable same kind_number
-test_right t S R e h = rw (e, ne_eqb (kind_number (kind t)) 3 h)
+pub test_right : (t : Ty) (S R : Shape) → S ≡ t ∷ R → false ≡ same (kind t) k_f → test_effect S ≡ ok R
+unfolding test_effect pop1 ◌>>=◌ guard testable
+test_right t S R e h = rw (e, ← h) refl
 
-pub test_wrong : (t : Ty) (S R : Shape) → S ≡ t ∷ R → kind_number (kind t) ≡ 3 → test_effect S ≡ bad 15
-unfolding test_effect pop1 ◌>>=◌ guard testable same kind_number
-test_wrong t S R e h = rw (e, eq-eqb (kind_number (kind t)) 3 h)
+pub test_wrong : (t : Ty) (S R : Shape) → S ≡ t ∷ R → true ≡ same (kind t) k_f → test_effect S ≡ bad 15
+unfolding test_effect pop1 ◌>>=◌ guard testable
+test_wrong t S R e h = rw (e, ← h) refl
 
-pub binary_few : (w : ℕ) → binary_effect w [] ≡ bad 13
+pub binary_few : (w : Pair) → binary_effect w [] ≡ bad 13
 unfolding binary_effect pop2 ◌>>=◌
 binary_few w = refl
 
-pub binary_few_1 : (w : ℕ) (t : Ty) → binary_effect w (t ∷ []) ≡ bad 13
+pub binary_few_1 : (w : Pair) (t : Ty) → binary_effect w (t ∷ []) ≡ bad 13
 unfolding binary_effect pop2 ◌>>=◌
 binary_few_1 w t = refl
 
-pub binary_right : (w : ℕ) (t u : Ty) (S R : Shape) → S ≡ t ∷ u ∷ R → true ≡ pairs w (kind u) (kind t) → binary_effect w S ≡ ok (u ∷ R)
+pub binary_right : (w : Pair) (t u : Ty) (S R : Shape) → S ≡ t ∷ u ∷ R → true ≡ pairs w (kind u) (kind t) → binary_effect w S ≡ ok (u ∷ R)
 unfolding binary_effect pop2 ◌>>=◌ guard
 binary_right w t u S R e h = rw (e, ← h)
 
-pub binary_wrong : (w : ℕ) (t u : Ty) (S R : Shape) → S ≡ t ∷ u ∷ R → false ≡ pairs w (kind u) (kind t) → binary_effect w S ≡ bad 15
+pub binary_wrong : (w : Pair) (t u : Ty) (S R : Shape) → S ≡ t ∷ u ∷ R → false ≡ pairs w (kind u) (kind t) → binary_effect w S ≡ bad 15
 unfolding binary_effect pop2 ◌>>=◌ guard
 binary_wrong w t u S R e h = rw (e, ← h)
 
-pub compare_few : (w : ℕ) → compare_effect w [] ≡ bad 13
-unfolding compare_effect pop2 ◌>>=◌
-compare_few w = refl
+-- comparisons, from the operator on the same operands
+pub compare_bad : (w : Pair) (S : Shape) (k : ℕ) → binary_effect w S ≡ bad k → compare_effect w S ≡ bad k
+unfolding binary_effect compare_effect pop2 ◌>>=◌ guard
+compare_bad w [] k e = cc
+compare_bad w (t ∷ []) k e = cc
+compare_bad w (t ∷ u ∷ R) k e = by (pairs w (kind u) (kind t)) e
+  where
+    by : (b : Bool) → (guard b (check_number wrong_type) >>= λ _. ok (u ∷ R)) ≡ bad k → (guard b (check_number wrong_type) >>= λ _. ok (int32 ∷ R)) ≡ bad k
+    by true q = cc
+    by false q = cc
 
-pub compare_few_1 : (w : ℕ) (t : Ty) → compare_effect w (t ∷ []) ≡ bad 13
-unfolding compare_effect pop2 ◌>>=◌
-compare_few_1 w t = refl
+pub when_bad : (w : Pair) (S : Shape) (k : ℕ) → binary_effect w S ≡ bad k → when_effect w S ≡ bad k
+unfolding binary_effect when_effect pop2 ◌>>=◌ guard
+when_bad w [] k e = cc
+when_bad w (t ∷ []) k e = cc
+when_bad w (t ∷ u ∷ R) k e = by (pairs w (kind u) (kind t)) e
+  where
+    by : (b : Bool) → (guard b (check_number wrong_type) >>= λ _. ok (u ∷ R)) ≡ bad k → (guard b (check_number wrong_type) >>= λ _. ok R) ≡ bad k
+    by true q = cc
+    by false q = cc
 
-pub compare_right : (w : ℕ) (t u : Ty) (S R : Shape) → S ≡ t ∷ u ∷ R → true ≡ pairs w (kind u) (kind t) → compare_effect w S ≡ ok (int32 ∷ R)
-unfolding compare_effect pop2 ◌>>=◌ guard
-compare_right w t u S R e h = rw (e, ← h)
+-- what an operator leaves: its first operand's type on top
+pub record Paired (P : Pool) (w : Pair) (S : Shape) (n : ℕ) : Type 0 where
+  pub top : Ty
+  pub rest : Shape
+  pub shows : Shows P (top ∷ rest) n
+  pub compared : compare_effect w S ≡ ok (int32 ∷ rest)
+  pub tested : when_effect w S ≡ ok rest
 
-pub compare_wrong : (w : ℕ) (t u : Ty) (S R : Shape) → S ≡ t ∷ u ∷ R → false ≡ pairs w (kind u) (kind t) → compare_effect w S ≡ bad 15
-unfolding compare_effect pop2 ◌>>=◌ guard
-compare_wrong w t u S R e h = rw (e, ← h)
-
-pub when_few : (w : ℕ) → when_effect w [] ≡ bad 13
-unfolding when_effect pop2 ◌>>=◌
-when_few w = refl
-
-pub when_few_1 : (w : ℕ) (t : Ty) → when_effect w (t ∷ []) ≡ bad 13
-unfolding when_effect pop2 ◌>>=◌
-when_few_1 w t = refl
-
-pub when_right : (w : ℕ) (t u : Ty) (S R : Shape) → S ≡ t ∷ u ∷ R → true ≡ pairs w (kind u) (kind t) → when_effect w S ≡ ok R
-unfolding when_effect pop2 ◌>>=◌ guard
-when_right w t u S R e h = rw (e, ← h)
-
-pub when_wrong : (w : ℕ) (t u : Ty) (S R : Shape) → S ≡ t ∷ u ∷ R → false ≡ pairs w (kind u) (kind t) → when_effect w S ≡ bad 15
-unfolding when_effect pop2 ◌>>=◌ guard
-when_wrong w t u S R e h = rw (e, ← h)
+pub paired : (P : Pool) (w : Pair) (S : Shape) (n : ℕ) → Agrees P (Ok n) (binary_effect w S) → Paired P w S n
+unfolding Agrees binary_effect compare_effect when_effect pop2 ◌>>=◌ guard
+paired P w [] n h = absurd h
+paired P w (t ∷ []) n h = absurd h
+paired P w (t ∷ u ∷ R) n h = by (pairs w (kind u) (kind t)) refl h
+  where
+    by : (b : Bool) → pairs w (kind u) (kind t) ≡ b → Agrees P (Ok n) (guard b (check_number wrong_type) >>= λ _. ok (u ∷ R)) → Paired P w (t ∷ u ∷ R) n
+    by true q a = record { top = u; rest = R; shows = a; compared = rw q refl; tested = rw q refl }
+    by false q a = absurd a
 
 -- ---- One operand
-
--- a number by its byte
-unfoldable pub numeric : ℕ → Ty
-numeric n = pick (eqb n 1) int32 (pick (eqb n 2) int64 F)
 
 pub unary_few : (M : Module) (m : Method) (o : Unary) → plain_effect M m (unary o) [] ≡ bad 13
 unfolding plain_effect pop1 ◌>>=◌
 unary_few M m o = refl
 
 unary_is : (M : Module) (m : Method) (o : Unary) (t : Ty) (S R : Shape) → S ≡ t ∷ R
-    → plain_effect M m (unary o) S ≡ pick (eqb (given_by (unary_of o (kind t))) 0) (bad 15) (ok (numeric (given_by (unary_of o (kind t))) ∷ R))
-unfolding plain_effect pop1 ◌>>=◌ pick need given_by unary_of neg_of conversion byte_of numeric not_of conv4_of conv8_of conv_fOf
-unary_is M m o t S R e = rw e (by o (kind t))
-  where
-    by : (o : Unary) (k : Kind) → (need (unary_of o k) (check_number wrong_type) >>= λ g. ok (g.gives ∷ R)) ≡ pick (eqb (given_by (unary_of o k)) 0) (bad 15)
-        (ok (numeric (given_by (unary_of o k)) ∷ R))
-    by neg k32 = refl
-    by neg k64 = refl
-    by neg k_f = refl
-    by neg reference = refl
-    by not_bits k32 = refl
-    by not_bits k64 = refl
-    by not_bits k_f = refl
-    by not_bits reference = refl
-    by conv_i4 k32 = refl
-    by conv_i4 k64 = refl
-    by conv_i4 k_f = refl
-    by conv_i4 reference = refl
-    by conv_i8 k32 = refl
-    by conv_i8 k64 = refl
-    by conv_i8 k_f = refl
-    by conv_i8 reference = refl
-    by conv_r8 k32 = refl
-    by conv_r8 k64 = refl
-    by conv_r8 k_f = refl
-    by conv_r8 reference = refl
+    → plain_effect M m (unary o) S ≡ (need (unary_of o (kind t)) (check_number wrong_type) >>= λ g. ok (g.gives ∷ R))
+unfolding plain_effect pop1 ◌>>=◌
+unary_is M m o t S R e = rw e refl
 
-pub unary_wrong : (M : Module) (m : Method) (o : Unary) (t : Ty) (S R : Shape) → S ≡ t ∷ R → given_by (unary_of o (kind t)) ≡ 0
+pub unary_wrong : (M : Module) (m : Method) (o : Unary) (t : Ty) (S R : Shape) → S ≡ t ∷ R → none ≡ given (unary_of o (kind t))
     → plain_effect M m (unary o) S ≡ bad 15
-unfolding pick
-unary_wrong M m o t S R e h = unary_is M m o t S R e ∙ rw h
+unfolding given map_option need ◌>>=◌
+unary_wrong M m o t S R e h = unary_is M m o t S R e ∙ by (unary_of o (kind t)) h
+  where
+    by : (c : Option Conversion) → none ≡ given c → (need c (check_number wrong_type) >>= λ g. ok (g.gives ∷ R)) ≡ bad 15
+    by none q = refl
+    by (some g) q = cc
 
-pub unary_right : (M : Module) (m : Method) (o : Unary) (t : Ty) (S R : Shape) → S ≡ t ∷ R → (given_by (unary_of o (kind t)) ≡ 0 → ⊥)
-    → plain_effect M m (unary o) S ≡ ok (numeric (given_by (unary_of o (kind t))) ∷ R)
-unfolding pick
-unary_right M m o t S R e h = unary_is M m o t S R e ∙ rw (ne_eqb (given_by (unary_of o (kind t))) 0 h)
+-- an operator of one operand gives a type
+pub record Given (M : Module) (m : Method) (o : Unary) (S R : Shape) (b : ℕ) : Type 0 where
+  pub type : Ty
+  pub is : plain_effect M m (unary o) S ≡ ok (type ∷ R)
+  pub byte : byte_of type ≡ b
 
-pub unary_byte : (o : Unary) (k : Kind) → (given_by (unary_of o k) ≡ 0 → ⊥) → byte_of (numeric (given_by (unary_of o k))) ≡ given_by (unary_of o k)
-unfolding pick given_by unary_of neg_of conversion byte_of numeric not_of conv4_of conv8_of conv_fOf
-unary_byte neg k32 h = refl
-unary_byte neg k64 h = refl
-unary_byte neg k_f h = refl
-unary_byte neg reference h = absurd (h refl)
-unary_byte not_bits k32 h = refl
-unary_byte not_bits k64 h = refl
-unary_byte not_bits k_f h = absurd (h refl)
-unary_byte not_bits reference h = absurd (h refl)
-unary_byte conv_i4 k32 h = refl
-unary_byte conv_i4 k64 h = refl
-unary_byte conv_i4 k_f h = absurd (h refl)
-unary_byte conv_i4 reference h = absurd (h refl)
-unary_byte conv_i8 k32 h = refl
-unary_byte conv_i8 k64 h = refl
-unary_byte conv_i8 k_f h = absurd (h refl)
-unary_byte conv_i8 reference h = absurd (h refl)
-unary_byte conv_r8 k32 h = refl
-unary_byte conv_r8 k64 h = absurd (h refl)
-unary_byte conv_r8 k_f h = refl
-unary_byte conv_r8 reference h = absurd (h refl)
+pub unary_right : (M : Module) (m : Method) (o : Unary) (t : Ty) (S R : Shape) (b : ℕ) → S ≡ t ∷ R → some b ≡ given (unary_of o (kind t))
+    → Given M m o S R b
+unfolding given map_option need ◌>>=◌
+unary_right M m o t S R b e h = by (unary_of o (kind t)) refl h
+  where
+    by : (c : Option Conversion) → unary_of o (kind t) ≡ c → some b ≡ given c → Given M m o S R b
+    by none r q = cc
+    by (some g) r q = record { type = g.gives; is = unary_is M m o t S R e ∙ rw r refl; byte = (let z : b ≡ byte_of g.gives = cc in sym z) }
 
 -- ---- What may be missing
 
@@ -256,12 +229,12 @@ unfolding Gives
 gives_none none b h e = refl
 gives_none (some t) b h e = let l : 0 < b = h.1 in absurd (omega arith)
 
-pub record Given (o : Option Ty) (b : ℕ) : Type 0 where
+pub record Due (o : Option Ty) (b : ℕ) : Type 0 where
   pub type : Ty
   pub is : o ≡ some type
   pub byte : byte_of type ≡ b
 
-pub gives_some : (o : Option Ty) (b : ℕ) → Gives o b → (b ≡ 0 → ⊥) → Given o b
+pub gives_some : (o : Option Ty) (b : ℕ) → Gives o b → (b ≡ 0 → ⊥) → Due o b
 unfolding Gives
 gives_some none b h e = absurd (e h)
 gives_some (some t) b h e = record { type = t; is = refl; byte = h.0 }
@@ -416,46 +389,36 @@ by_height h n k e l = omega arith
 
 -- ---- Calls, as the code goes
 
-pub record Calling (P : Pool) (M : Module) (ts : List Ty) (S : Shape) (b : Bool) (x : ℕ) : Type 0 where
+-- the arguments fit, and what is left has a number
+pub record Calling (P : Pool) (M : Module) (ts : List Ty) (S : Shape) (rest : ℕ) : Type 0 where
   pub enough : length ts ≤ length S
-  pub fit : fit_all (fits M.parents) ts (firsts (length ts) S []) ≡ b
-  pub shows : b ≡ true → Shows P (drop (length ts) S) x
+  pub fit : fit_all (fits M.parents) ts (firsts (length ts) S []) ≡ true
+  pub shows : Shows P (drop (length ts) S) rest
 
-pub calling : (P : Pool) (M : Module) (m : Method) (ts : List Ty) (o : Option Ty) (S : Shape) (n h v : ℕ) (r : Popped) → length ts ≡ n → h ≡ length S
-    → v ≡ h → n ≤ v
-    → (n ≤ length S → Pops P r (fit_all (fits M.parents) ts (firsts n S [])) (drop n S)) → Calling P M ts S r.fit r.rest
+pub calling : (P : Pool) (M : Module) (ts : List Ty) (S : Shape) (r : Found ℕ) (rest : ℕ) → length ts ≤ length S
+    → Pops P r (fit_all (fits M.parents) ts (firsts (length ts) S [])) (drop (length ts) S) → r ≡ Some rest → Calling P M ts S rest
 unfolding Pops
-calling P M m ts o S n h v r e q z l g =
-    let p = g (omega arith) in
-    record {
-      enough = omega arith;
-      fit = rw e (sym p.0);
-      shows = λ y. subst (λ (k : ℕ). Shows P (drop k S) r.rest) (sym e) (p.1 (sym p.0 ∙ y));
-    }
+calling P M ts S None rest l p e = cc
+calling P M ts S (Some x) rest l p e = let z : x ≡ rest = cc in record { enough = l; fit = p.0; shows = rw (← z) p.1 }
 
-pub call_few_by : (M : Module) (m : Method) (ts : List Ty) (o : Option Ty) (S : Shape) (n h v : ℕ) → length ts ≡ n → h ≡ length S → v ≡ h → v < n
-    → called_effect M m ts o S ≡ bad 13
-call_few_by M m ts o S n h v e q z l = call_few M m ts o S (omega arith)
+pub call_wrong_by : (P : Pool) (M : Module) (m : Method) (ts : List Ty) (o : Option Ty) (S : Shape) (r : Found ℕ) → length ts ≤ length S
+    → Pops P r (fit_all (fits M.parents) ts (firsts (length ts) S [])) (drop (length ts) S) → r ≡ None → called_effect M m ts o S ≡ bad 15
+unfolding Pops
+call_wrong_by P M m ts o S None l p e = call_wrong M m ts o S l p
+call_wrong_by P M m ts o S (Some x) l p e = cc
 
-pub call_wrong_by : (P : Pool) (M : Module) (m : Method) (ts : List Ty) (o : Option Ty) (S : Shape) (b : Bool) (x : ℕ) → Calling P M ts S b x → b ≡ false
-    → called_effect M m ts o S ≡ bad 15
-call_wrong_by P M m ts o S b x k e = call_wrong M m ts o S k.enough (k.fit ∙ e)
+module _ (P : Pool) (M : Module) (m : Method) (ts : List Ty) (o : Option Ty) (S : Shape) (rest max : ℕ) (k : Calling P M ts S rest)
+    (most : m.max_stack ≡ max) (void : o ≡ none) where
+  pub call_void_full_by : max < get_or P.heights rest 0 → called_effect M m ts o S ≡ bad 14
+  call_void_full_by l =
+      call_void_full M m ts o S k.enough k.fit void
+      (let z : get_or P.heights rest 0 ≡ length (drop (length ts) S) = height P (drop (length ts) S) rest k.shows in omega arith)
 
-pub call_void_full_by : (P : Pool) (M : Module) (m : Method) (ts : List Ty) (o : Option Ty) (S : Shape) (b : Bool) (x max : ℕ) → Calling P M ts S b x
-    → b ≡ true → o ≡ none → m.max_stack ≡ max
-    → max < get_or P.heights x 0 → called_effect M m ts o S ≡ bad 14
-call_void_full_by P M m ts o S b x max k e q y l =
-    call_void_full M m ts o S k.enough (k.fit ∙ e) q (let z : get_or P.heights x 0 ≡ length (drop (length ts) S) =
-    height P (drop (length ts) S) x (k.shows e) in omega arith)
+  pub call_void_room_by : get_or P.heights rest 0 ≤ max → called_effect M m ts o S ≡ ok (drop (length ts) S)
+  call_void_room_by l =
+      call_void_room M m ts o S k.enough k.fit void
+      (let z : get_or P.heights rest 0 ≡ length (drop (length ts) S) = height P (drop (length ts) S) rest k.shows in omega arith)
 
-pub call_void_room_by : (P : Pool) (M : Module) (m : Method) (ts : List Ty) (o : Option Ty) (S : Shape) (b : Bool) (x max : ℕ) → Calling P M ts S b x
-    → b ≡ true → o ≡ none → m.max_stack ≡ max
-    → get_or P.heights x 0 ≤ max → called_effect M m ts o S ≡ ok (drop (length ts) S)
-call_void_room_by P M m ts o S b x max k e q y l =
-    call_void_room M m ts o S k.enough (k.fit ∙ e) q (let z : get_or P.heights x 0 ≡ length (drop (length ts) S) =
-    height P (drop (length ts) S) x (k.shows e) in omega arith)
-
-pub call_pushes_by : (P : Pool) (M : Module) (m : Method) (ts : List Ty) (o : Option Ty) (u : Ty) (S : Shape) (b : Bool) (x : ℕ) → Calling P M ts S b x
-    → b ≡ true → o ≡ some u
-    → called_effect M m ts o S ≡ pushes m u (drop (length ts) S)
-call_pushes_by P M m ts o u S b x k e q = call_pushes M m ts o u S k.enough (k.fit ∙ e) q
+pub call_pushes_by : (P : Pool) (M : Module) (m : Method) (ts : List Ty) (o : Option Ty) (u : Ty) (S : Shape) (rest : ℕ) → Calling P M ts S rest
+    → o ≡ some u → called_effect M m ts o S ≡ pushes m u (drop (length ts) S)
+call_pushes_by P M m ts o u S rest k q = call_pushes M m ts o u S k.enough k.fit q

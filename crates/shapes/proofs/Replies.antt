@@ -1,45 +1,51 @@
 -- What an answer of the code says, by how it was made.
-use Prim.Native.Nat.{ℕ, suc, ◌+◌, ◌%◌, ◌≤◌, ◌<◌}
+use Prim.Native.Nat.{ℕ, suc, ◌%◌, ◌≤◌, ◌<◌}
 use mathlib.Core.Path.{◌≡◌, refl, sym, subst}
-use mathlib.Core.List.{List, [], ◌∷◌}
+use mathlib.Core.List.{[], ◌∷◌}
 use native.Mathlib.Omega.{arith}
-use lib.ListN.{length, get_or, set}
+use lib.ListN.{length, get_or}
 use Rattle.model.specs.Answer.{Answer, bad, ok}
 use Rattle.model.specs.Tables.{Ty, byte_of}
 use Rattle.model.specs.Check.{Shape}
-use Rattle.shapes.specs.declared.shape.After.{After}
-use Rattle.shapes.specs.Pool.{Pool, pool, Shows, Fine, Grown, Agrees}
+use Rattle.std.specs.Prelude.{Result, Ok, Err}
+use Rattle.shapes.specs.declared.fault.FaultKind.{FaultKind}
+use Rattle.shapes.specs.Faults.{number}
+use Rattle.shapes.specs.Pool.{Pool, Shows, Fine, Grown, Agrees, grown}
 use Rattle.shapes.proofs.Showing.{height, under, top_byte, same_grown, put_grown, put_shows}
 
-abbrev up_to : Pool → ℕ → Pool
-up_to P n = pool P.tops P.belows P.heights n
-
--- nothing is made
-pub stay : (P : Pool) (n : ℕ) → n ≡ P.made → Fine P → Grown P (up_to P n)
-stay P n e f = subst (λ (k : ℕ). Grown P (up_to P k)) (sym e) (same_grown P f)
-
 -- a fault
-pub refuses : (P : Pool) (r : After) (k : ℕ) (A : Answer ℕ Shape) → A ≡ bad k → (12 < k) × (k < 18) → (r.fault ≡ k) × (r.shape ≡ 1) × (r.made ≡ P.made)
-    → Fine P
-    → Agrees (up_to P r.made) r A × Grown P (up_to P r.made)
+pub refuses : (P : Pool) (e : FaultKind) (A : Answer ℕ Shape) → A ≡ bad (number e) → 12 < number e → Fine P → Agrees P (Err e) A × Grown P P
 unfolding Agrees
-refuses P r k A e l h f = (rw e (h.0, l.0, l.1), stay P r.made h.2 f)
+refuses P e A q l f = rw q ((refl, l), same_grown P f)
 
 -- a shape that stands already
-pub leaves : (P : Pool) (r : After) (S : Shape) (A : Answer ℕ Shape) → A ≡ ok S → r.fault ≡ 0 → r.made ≡ P.made → Shows P S r.shape → Fine P
-    → Agrees (up_to P r.made) r A × Grown P (up_to P r.made)
+pub leaves : (P : Pool) (n : ℕ) (S : Shape) (A : Answer ℕ Shape) → A ≡ ok S → Shows P S n → Fine P → Agrees P (Ok n) A × Grown P P
 unfolding Agrees
-leaves P r S A e z n w f = (rw (e, n) (z, w), stay P r.made n f)
+leaves P n S A q w f = rw q (w, same_grown P f)
 
 -- a new shape
-pub brings : (P : Pool) (r : After) (t b h : List ℕ) (u : Ty) (S : Shape) (A : Answer ℕ Shape) (x s y : ℕ) → A ≡ ok (u ∷ S) → P.made < 2048
-    → ((r.fault ≡ 0) × (r.shape ≡ P.made) × (r.made ≡ P.made + 1))
-    × ((t ≡ set P.tops P.made x) × (b ≡ set P.belows P.made s) × (h ≡ set P.heights P.made y))
-    → byte_of u ≡ x → y ≡ suc (length S) → Shows P S s → Fine P
-    → Agrees (pool t b h r.made) r A × Grown P (pool t b h r.made)
+pub brings : (P Q : Pool) (r : ℕ) (u : Ty) (S : Shape) (A : Answer ℕ Shape) (s t h : ℕ) → A ≡ ok (u ∷ S) → P.made < 2048 → r ≡ P.made → Q ≡ grown P s t h
+    → byte_of u ≡ t → h ≡ suc (length S) → Shows P S s → Fine P → Agrees Q (Ok r) A × Grown P Q
 unfolding Agrees
-brings P r t b h u S A x s y e l p q g w f =
-    rw (p.1.0, p.1.1, p.1.2, p.0.2, e, p.0.1) ((p.0.0, put_shows P x s y l f u S q g w), put_grown P x s y l f)
+brings P Q r u S A s t h q l m g e y w f = rw (g, q, m) (put_shows P s t h l f u S e y w, put_grown P s t h l f)
+
+-- a fault of a step before
+pub passes_on : (P : Pool) (e : FaultKind) (r : Result ℕ FaultKind) (A B : Answer ℕ Shape) → r ≡ Err e → Agrees P (Err e) A × Grown P P
+    → ((k : ℕ) → A ≡ bad k → B ≡ bad k) → Agrees P r B × Grown P P
+unfolding Agrees
+passes_on P e r (bad k) B q h f = rw (q, f k refl) h
+passes_on P e r (ok S) B q h f = absurd h.0
+
+-- the shape that a number stands for
+pub record Taken (P : Pool) (n : ℕ) (A : Answer ℕ Shape) : Type 0 where
+  pub shape : Shape
+  pub is : A ≡ ok shape
+  pub shows : Shows P shape n
+
+pub taken : (P : Pool) (n : ℕ) (A : Answer ℕ Shape) → Agrees P (Ok n) A → Taken P n A
+unfolding Agrees
+taken P n (bad k) h = absurd h
+taken P n (ok S) h = record { shape = S; is = refl; shows = h }
 
 -- ---- By height
 
@@ -117,10 +123,5 @@ pub few_2 : (P : Pool) (f : Shape → Answer ℕ Shape) (s k : ℕ) → f [] ≡
 few_2 P f s k e g l S w = one_at_most P (λ R. f R ≡ bad k) s l e g S w
 
 -- an equal answer
-pub told : (P Q : Pool) (r : After) (A B : Answer ℕ Shape) → A ≡ B → Agrees Q r B × Grown P Q → Agrees Q r A × Grown P Q
+pub told : (P Q : Pool) (r : Result ℕ FaultKind) (A B : Answer ℕ Shape) → A ≡ B → Agrees Q r B × Grown P Q → Agrees Q r A × Grown P Q
 told P Q r A B e h = subst (λ (X : Answer ℕ Shape). Agrees Q r X × Grown P Q) (sym e) h
-
--- nothing is made
-pub settled : (P : Pool) (r : After) (A : Answer ℕ Shape) → r.made ≡ P.made → Agrees (up_to P r.made) r A × Grown P (up_to P r.made)
-    → Agrees P r A × Grown P P
-settled P r A e h = subst (λ (n : ℕ). Agrees (up_to P n) r A × Grown P (up_to P n)) e h

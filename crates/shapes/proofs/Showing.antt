@@ -1,13 +1,13 @@
 -- What numbers stand for.
-use Prim.Native.Nat.{ℕ, suc, ◌+◌, ◌%◌, ◌≤◌, ◌<◌}
+use Prim.Native.Nat.{ℕ, suc, ◌%◌, ◌≤◌, ◌<◌}
 use mathlib.Core.Path.{◌≡◌, refl, sym, ◌∙◌, subst}
 use mathlib.Core.List.{[], ◌∷◌}
 use native.Mathlib.Omega.{arith}
-use lib.ListN.{length, get_or, set, length-set}
+use lib.ListN.{length, get_or, length-set}
 use lib.Seq.{get_or-set_same, get_or-set_other}
 use Rattle.model.specs.Tables.{Ty, byte_of}
 use Rattle.model.specs.Check.{Shape}
-use Rattle.shapes.specs.Pool.{Pool, pool, Shows, Fine, Grown}
+use Rattle.shapes.specs.Pool.{Pool, Shows, Fine, Grown, grown}
 use Rattle.shapes.proofs.Bytes.{byte_inj}
 
 -- the height is the length
@@ -74,11 +74,8 @@ top_byte P t S n h = sym h.0.type
 
 -- ---- A new shape
 
-module _ (P : Pool) (t s h : ℕ) (room : P.made < 2048) (f : Fine P) where
-  abbrev pub grown : Pool
-  grown = pool (set P.tops P.made t) (set P.belows P.made s) (set P.heights P.made h) (P.made + 1)
-
-  pub put_grown : Grown P grown
+module _ (P : Pool) (s t h : ℕ) (room : P.made < 2048) (f : Fine P) where
+  pub put_grown : Grown P (grown P s t h)
   put_grown =
       let n : 1 < P.made = f.some in
       record {
@@ -96,7 +93,7 @@ module _ (P : Pool) (t s h : ℕ) (room : P.made < 2048) (f : Fine P) where
         heights = λ k l. get_or-set_other P.heights P.made k h 0 (λ e. omega arith);
       }
 
-  pub put_shows : (u : Ty) (S : Shape) → byte_of u ≡ t → h ≡ suc (length S) → Shows P S s → Shows grown (u ∷ S) P.made
+  pub put_shows : (u : Ty) (S : Shape) → byte_of u ≡ t → h ≡ suc (length S) → Shows P S s → Shows (grown P s t h) (u ∷ S) P.made
   unfolding Shows
   put_shows u S e l w =
       let a : P.made < length P.tops = rw f.tops room in
@@ -109,5 +106,5 @@ module _ (P : Pool) (t s h : ℕ) (room : P.made < 2048) (f : Fine P) where
           type = get_or-set_same P.tops P.made t 0 a ∙ sym e;
           height = get_or-set_same P.heights P.made h 0 c ∙ l;
         },
-        subst (λ (k : ℕ). Shows grown S k) (sym (get_or-set_same P.belows P.made s 0 b)) (later P grown S s f put_grown w),
+        subst (λ (k : ℕ). Shows (grown P s t h) S k) (sym (get_or-set_same P.belows P.made s 0 b)) (later P (grown P s t h) S s f put_grown w),
       )

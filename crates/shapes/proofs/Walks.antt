@@ -2,6 +2,7 @@
 use Prim.Native.Nat.{ℕ, zero, suc, ◌+◌, ◌-◌, ◌%◌, ◌≤◌, ◌<◌}
 use mathlib.Core.Path.{◌≡◌, refl, sym, ap, ◌∙◌, subst}
 use mathlib.Core.Bool.{Bool, true, false, ◌&&◌}
+use Rattle.std.specs.Prelude.{None, Some}
 use mathlib.Core.Option.{Option, some}
 use mathlib.Core.List.{List, [], ◌∷◌}
 use native.Mathlib.Omega.{arith}
@@ -84,9 +85,9 @@ module _ (P : Pool) (A B : Shape) (n x y : ℕ) (f : Fine P) (w : Walk P A B n x
       sym (w.rest ∙ (eq_tys_top w.left w.right left_one.rest right_one.rest left_one.top right_one.top left_one.is right_one.is
       ∙ rw (ne_eqb (byte_of left_one.top) (byte_of right_one.top) (λ e. h (sym left_one.byte ∙ (e ∙ right_one.byte))))))
 
-  pub walk_next : (c d : ℕ) → get_or P.tops x 0 ≡ get_or P.tops y 0 → c ≡ get_or P.belows x 0 % 2048 → d ≡ get_or P.belows y 0 % 2048
-      → Walk P A B (n - 1) c d
-  walk_next c d h p q =
+  pub walk_next : (m c d : ℕ) → m + 1 ≡ n → get_or P.tops x 0 ≡ get_or P.tops y 0 → c ≡ get_or P.belows x 0 % 2048 → d ≡ get_or P.belows y 0 % 2048
+      → Walk P A B m c d
+  walk_next m c d k h p q =
       let a : length w.left ≡ n = w.size_left in
       let b : length w.right ≡ n = w.size_right in
       let e : length w.left ≡ suc (length left_one.rest) = ap length left_one.is in
@@ -143,8 +144,8 @@ and_false a r b p q = rw (p, q)
 drop_top : (i : ℕ) (S R : Shape) (v : Ty) → S ≡ v ∷ R → drop (suc i) S ≡ drop i R
 drop_top i S R v e = rw e
 
-module _ (P : Pool) (ps l : List ℕ) (ts : List Ty) (S : Shape) (n i x from : ℕ) (r : Bool) (f : Fine P) (p : Popping P ps ts S n (suc i) x)
-    (types : Types l from ts) (inside : i < length ts) (said : (A B : Ty) → byte_of A ≡ get_or P.tops x 0 → byte_of B ≡ get_or l (from + i) 0
+module _ (P : Pool) (ps l : List ℕ) (ts : List Ty) (S : Shape) (n i x : ℕ) (r : Bool) (f : Fine P) (p : Popping P ps ts S n (suc i) x)
+    (types : Types l 0 ts) (inside : i < length ts) (said : (A B : Ty) → byte_of A ≡ get_or P.tops x 0 → byte_of B ≡ get_or l i 0
     → r ≡ fits ps A B) where
   top_one : One P p.rest x
   top_one =
@@ -153,7 +154,8 @@ module _ (P : Pool) (ps l : List ℕ) (ts : List Ty) (S : Shape) (n i x from : �
 
   fit_said : fit_at (fits ps) top_one.top (at ts i) ≡ r
   unfolding fit_at
-  fit_said = at_less ts i inside (λ o. fit_at (fits ps) top_one.top o ≡ r) (λ t e. sym (said top_one.top t top_one.byte (sym (types i t e))))
+  fit_said = at_less ts i inside (λ o. fit_at (fits ps) top_one.top o ≡ r) (λ t e. sym (said top_one.top t top_one.byte
+      (sym (subst (λ (k : ℕ). get_or l k 0 ≡ byte_of t) (let z : 0 + i ≡ i = omega arith in z) (types i t e)))))
 
   pub popping_next : (b : ℕ) → r ≡ true → b ≡ get_or P.belows x 0 % 2048 → Popping P ps ts S n i b
   popping_next b e h =
@@ -170,7 +172,7 @@ module _ (P : Pool) (ps l : List ℕ) (ts : List Ty) (S : Shape) (n i x from : �
   pub popping_wrong : r ≡ false → fit_down (fits ps) ts n S ≡ false
   popping_wrong e = p.fit ∙ (fit_top ps ts i p.rest top_one.rest top_one.top top_one.is ∙ and_false _ _ _ fit_said e)
 
--- one more, as the code counts
+-- as the code counts down
 pub stepped : (P : Pool) (ps : List ℕ) (ts : List Ty) (S : Shape) (n i x : ℕ) → 0 < i → Popping P ps ts S n i x → Popping P ps ts S n (suc (i - 1)) x
 stepped P ps ts S n i x h p = let e : i ≡ suc (i - 1) = omega arith in subst (λ (k : ℕ). Popping P ps ts S n k x) e p
 
@@ -180,11 +182,11 @@ module _ (P : Pool) (ps : List ℕ) (ts : List Ty) (S : Shape) (n : ℕ) (size :
       ap (λ (l : List Ty). fit_all (fits ps) l (firsts n S [])) (sym (take_all n ts (omega arith)))
       ∙ down (fits ps) ts n S (omega arith) enough
 
-  pub popped_wrong : fit_down (fits ps) ts n S ≡ false → Pops P (record { fit = false; rest = 1 }) (fit_all (fits ps) ts (firsts n S [])) (drop n S)
+  pub popped_wrong : fit_down (fits ps) ts n S ≡ false → Pops P None (fit_all (fits ps) ts (firsts n S [])) (drop n S)
   unfolding Pops
-  popped_wrong e = rw (all_down, e) (refl, λ z. let k : ◌≡◌ {A = ℕ} 0 1 = cc in absurd (omega arith))
+  popped_wrong e = all_down ∙ e
 
-  pub popped_right : (i x : ℕ) → Popping P ps ts S n i x → i ≡ 0 → Pops P (record { fit = true; rest = x }) (fit_all (fits ps) ts (firsts n S [])) (drop n S)
+  pub popped_right : (i x : ℕ) → Popping P ps ts S n i x → i ≡ 0 → Pops P (Some x) (fit_all (fits ps) ts (firsts n S [])) (drop n S)
   unfolding Pops fit_down
   popped_right i x p e =
-      rw (all_down, p.fit, e) (refl, λ z. subst (λ (R : Shape). Shows P R x) (sym (p.left ∙ ap (λ (k : ℕ). drop k p.rest) e)) p.shows)
+      (all_down ∙ (p.fit ∙ rw e refl), subst (λ (R : Shape). Shows P R x) (sym (p.left ∙ ap (λ (k : ℕ). drop k p.rest) e)) p.shows)

@@ -1,5 +1,5 @@
 -- The effects of the groups of instructions that the check treats alike.
-use Rattle.std.specs.Prelude.{ℕ, ◌+◌, ◌<◌, ◌≡◌, Bool, true, List, ◌∷◌, ◌++◌, length, get_or}
+use Rattle.std.specs.Prelude.{ℕ, ◌+◌, ◌<◌, ◌≡◌, Bool, true, false, Option as Found, None, Some, List, ◌∷◌, ◌++◌, length, get_or}
 use Rattle.std.proofs.Math.Option.{Option, none, some}
 use Rattle.model.specs.Answer.{Answer, ok, ◌>>=◌, guard, at}
 use Rattle.model.specs.Tables.{Ty, int32, byte_of, Method, Module, as_list}
@@ -8,16 +8,16 @@ use Rattle.model.specs.State.{wrong_type, pops, pop2, room, check_number}
 use Rattle.model.specs.Check.{Shape}
 use Rattle.shapes.specs.Pool.{Pool, Shows}
 use Rattle.shapes.specs.Kinds.{pairs}
-use Rattle.shapes.specs.declared.effect.Popped.{Popped}
+use Rattle.shapes.specs.declared.kind.Pair.{Pair}
 
 -- an operator of two operands whose result has the first one's type
-unfoldable pub binary_effect : ℕ → Shape → Answer ℕ Shape
+unfoldable pub binary_effect : Pair → Shape → Answer ℕ Shape
 binary_effect w S = pop2 check_number S >>= λ p. guard (pairs w (kind p.0) (kind p.1)) (check_number wrong_type) >>= λ _. ok (p.0 ∷ p.2)
 
-unfoldable pub compare_effect : ℕ → Shape → Answer ℕ Shape
+unfoldable pub compare_effect : Pair → Shape → Answer ℕ Shape
 compare_effect w S = pop2 check_number S >>= λ p. guard (pairs w (kind p.0) (kind p.1)) (check_number wrong_type) >>= λ _. ok (int32 ∷ p.2)
 
-unfoldable pub when_effect : ℕ → Shape → Answer ℕ Shape
+unfoldable pub when_effect : Pair → Shape → Answer ℕ Shape
 when_effect w S = pop2 check_number S >>= λ p. guard (pairs w (kind p.0) (kind p.1)) (check_number wrong_type) >>= λ _. ok p.2
 
 -- values of these types are popped, and one of the type to come, if any, is pushed
@@ -39,6 +39,7 @@ Due m b = Gives m.returns b
 abbrev pub Types : List ℕ → ℕ → List Ty → Type 0
 Types l from ts = (i : ℕ) (t : Ty) → at ts i ≡ some t → get_or l (from + i) 0 ≡ byte_of t
 
--- whether the values fit, and what is left
-unfoldable pub Pops : Pool → Popped → Bool → Shape → Type 0
-Pops P r b S = (r.fit ≡ b) × (b ≡ true → Shows P S r.rest)
+-- what is left, where the values fit
+unfoldable pub Pops : Pool → Found ℕ → Bool → Shape → Type 0
+Pops P None b S = b ≡ false
+Pops P (Some rest) b S = (b ≡ true) × Shows P S rest

@@ -1,3 +1,4 @@
+pub mod Faults
 pub mod Pool
 pub mod Kinds
 pub mod Effects

@@ -1,19 +1,19 @@
 -- Shapes by number: what the arrays of the check hold, and what an instruction's answer says.
-use Rattle.std.specs.Prelude.{ℕ, suc, ◌+◌, ◌≤◌, ◌<◌, ◌≡◌, List, [], ◌∷◌, length, get_or}
+use Rattle.std.specs.Prelude.{ℕ, suc, ◌+◌, ◌≤◌, ◌<◌, ◌≡◌, List, [], ◌∷◌, length, get_or, set, Result, Ok, Err, IfOk}
 use Rattle.std.proofs.Math.Option.{Option, none, some}
 use Rattle.model.specs.Answer.{Answer, bad, ok}
 use Rattle.model.specs.Tables.{Ty, byte_of}
 use Rattle.model.specs.Check.{Shape}
-use Rattle.shapes.specs.declared.shape.After.{After}
-
-pub record Pool : Type 0 where
-  pub tops : List ℕ
-  pub belows : List ℕ
-  pub heights : List ℕ
-  pub made : ℕ
+pub use Rattle.shapes.specs.declared.shape.Pool.{Pool}
+use Rattle.shapes.specs.declared.fault.FaultKind.{FaultKind}
+use Rattle.shapes.specs.Faults.{number}
 
 abbrev pub pool : List ℕ → List ℕ → List ℕ → ℕ → Pool
 pool t b h n = record { tops = t; belows = b; heights = h; made = n }
+
+-- one more shape: a shape, the byte of a type on top of it, and its height
+abbrev pub grown : Pool → ℕ → ℕ → ℕ → Pool
+grown P s t h = pool (set P.tops P.made t) (set P.belows P.made s) (set P.heights P.made h) (P.made + 1)
 
 -- a number that stands for a type on top of a shape of a length
 pub record Top (P : Pool) (t : Ty) (n : ℕ) (size : ℕ) : Type 0 where
@@ -45,24 +45,26 @@ pub record Grown (P Q : Pool) : Type 0 where
   pub heights : (n : ℕ) → n < P.made → get_or Q.heights n 0 ≡ get_or P.heights n 0
 
 -- an answer is a fault from 13 to 17 or a shape
-unfoldable pub Agrees : Pool → After → Answer ℕ Shape → Type 0
-Agrees P r (bad k) = (r.fault ≡ k) × (12 < k) × (k < 18)
-Agrees P r (ok S) = (r.fault ≡ 0) × Shows P S r.shape
+unfoldable pub Agrees : Pool → Result ℕ FaultKind → Answer ℕ Shape → Type 0
+Agrees P (Err e) (bad k) = (number e ≡ k) × (12 < k)
+Agrees P (Err e) (ok S) = ⊥
+Agrees P (Ok s) (bad k) = ⊥
+Agrees P (Ok s) (ok S) = Shows P S s
 
 -- 12 where an operand is missing
-unfoldable pub Takes : {A : Type 0} → Pool → After → (A → Answer ℕ Shape) → Option A → Type 0
-Takes P r f none = r.fault ≡ 12
+unfoldable pub Takes : {A : Type 0} → Pool → Result ℕ FaultKind → (A → Answer ℕ Shape) → Option A → Type 0
+Takes P r f none = r ≡ Err FaultKind.Operand
 Takes P r f (some a) = Agrees P r (f a)
 
 -- the ranges of an answer
-pub record Small (r : After) (made : ℕ) : Type 0 where
-  pub shape : r.shape < 2048
-  pub few : r.made ≤ made + 1
+pub record Small (P Q : Pool) (r : Result ℕ FaultKind) : Type 0 where
+  pub shape : IfOk r (λ s. s < 2048)
+  pub few : Q.made ≤ P.made + 1
 
 -- what an instruction does to every shape that a number stands for
-abbrev pub Effect : Pool → Pool → After → ℕ → (Shape → Answer ℕ Shape) → Type 0
+abbrev pub Effect : Pool → Pool → Result ℕ FaultKind → ℕ → (Shape → Answer ℕ Shape) → Type 0
 Effect P Q r s f = Fine P → (S : Shape) → Shows P S s → Agrees Q r (f S) × Grown P Q
 
 -- the same for one with an operand
-abbrev pub Operand : {A : Type 0} → Pool → Pool → After → ℕ → (A → Shape → Answer ℕ Shape) → Option A → Type 0
+abbrev pub Operand : {A : Type 0} → Pool → Pool → Result ℕ FaultKind → ℕ → (A → Shape → Answer ℕ Shape) → Option A → Type 0
 Operand P Q r s f o = Fine P → (S : Shape) → Shows P S s → Takes Q r (λ a. f a S) o × Grown P Q

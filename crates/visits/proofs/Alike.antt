@@ -23,8 +23,7 @@ use Rattle.model.specs.Check.{Shape, plain_effect, jump_effect, effect, plain_fa
 use Rattle.code.specs.Insn.{with_operand, form_by, ins_of}
 use Rattle.code.specs.declared.insn.Insn.{Insn}
 use Rattle.code.proofs.Table.{under, both, both_left, both_right}
-use Rattle.shapes.specs.Kinds.{unary_by}
-use Rattle.check_operands.specs.Groups.{groups, group_of, jump_by, target_by, in_opcode, call_by, field_by, plain_by, ins_by}
+use Rattle.check_operands.specs.Groups.{groups, group_of, jump_by, target_by, in_opcode, call_by, field_by, plain_by, ins_by, unary_by}
 
 -- ---- The instruction that stands for others
 

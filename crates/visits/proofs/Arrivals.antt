@@ -13,13 +13,13 @@ use lib.ListN.{length, get_or, set, length-set}
 use lib.Seq.{get_or-set_same, get_or-set_other}
 use Rattle.model.specs.Answer.{Answer, bad, ok, ◌>>=◌, guard, need, pick, keep_if, only_if, or_else}
 use Rattle.model.specs.Code.{Jump, iftrue, when, eq, lt}
-use Rattle.visits.specs.declared.fault.FaultKind.{FaultKind}
-use Rattle.visits.specs.declared.fault.FaultKind.TheVariants.{Operand, OtherShape, FallsPast}
-use Rattle.visits.specs.Effects.{Agrees}
+use Rattle.shapes.specs.declared.fault.FaultKind.{FaultKind}
+use Rattle.shapes.specs.declared.fault.FaultKind.TheVariants.{Operand, OtherShape, FallsPast}
 use Rattle.check_operands.specs.Groups.{jump_by}
 use Rattle.model.specs.Tables.{eq_tys}
 use Rattle.model.specs.Check.{Shape, Shapes, joined, meet, arrive, shape_at, jump_falls, jump_effect}
-use Rattle.shapes.specs.Pool.{Pool, Shows, Fine, Grown}
+use Rattle.shapes.specs.declared.shape.Pool.{Pool}
+use Rattle.shapes.specs.Pool.{Shows, Fine, Grown, Agrees}
 use Rattle.visits.specs.Found.{Stands, Kept, Read, Met, Went, WentBy, goes_on, jumped, Lands}
 use Rattle.shapes.proofs.Showing.{used, not_none, later, empty_shows}
 

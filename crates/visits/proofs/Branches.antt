@@ -16,6 +16,8 @@ use Rattle.model.specs.Operators.{Kind, k32, k64, k_f, reference, kind, kind_num
 use Rattle.model.specs.State.{pop2, wrong_type, check_number}
 use Rattle.model.specs.Check.{Shape, Site, jump_effect, test_effect}
 use Rattle.code.specs.Operand.{held}
+use Rattle.shapes.specs.declared.kind.Pair.{Pair}
+use Rattle.shapes.specs.declared.kind.Pair.TheVariants.{Alike, Numbers}
 use Rattle.shapes.specs.Kinds.{pairs}
 use Rattle.shapes.specs.Effects.{when_effect}
 use Rattle.check_operands.specs.Groups.{jump_by, target_by}
@@ -37,7 +39,7 @@ pub jump_test : (g : ℕ) (S : Shape) → g ≡ 34 → jump_effect (jump_by g) S
 unfolding jump_by pick jump_effect
 jump_test g S e = rw e
 
-compared : (r : Relation) (w : ℕ) → ((a b : Kind) (R : Shape)
+compared : (r : Relation) (w : Pair) → ((a b : Kind) (R : Shape)
     → (need (comparison r a b) (check_number wrong_type) >>= λ _. ok R) ≡ (guard (pairs w a b) (check_number wrong_type) >>= λ _. ok R)) → (S : Shape) → jump_effect
     (when r) S ≡ when_effect w S
 unfolding jump_effect when_effect pop2 ◌>>=◌
@@ -45,18 +47,18 @@ compared r w h [] = refl
 compared r w h (b ∷ []) = refl
 compared r w h (b ∷ a ∷ S) = h (kind a) (kind b) S
 
-same_kinds : (a b : Kind) (R : Shape) → (need (comparison eq a b) (check_number wrong_type) >>= λ _. ok R) ≡ (guard (pairs 3 a b) (check_number wrong_type) >>= λ _. ok R)
+same_kinds : (a b : Kind) (R : Shape) → (need (comparison eq a b) (check_number wrong_type) >>= λ _. ok R) ≡ (guard (pairs Alike a b) (check_number wrong_type) >>= λ _. ok R)
 unfolding comparison pairs pick relation_of relates_ref only_if need guard ◌>>=◌
 same_kinds a b R = by a (same a b)
   where
-    by : (a : Kind) (t : Bool) → (need (only_if t (relation_of eq a)) (check_number wrong_type) >>= λ _. ok R) ≡ (guard (t && true) (check_number wrong_type) >>= λ _. ok R)
+    by : (a : Kind) (t : Bool) → (need (only_if t (relation_of eq a)) (check_number wrong_type) >>= λ _. ok R) ≡ (guard t (check_number wrong_type) >>= λ _. ok R)
     by k32 true = refl
     by k64 true = refl
     by k_f true = refl
     by reference true = refl
     by a false = refl
 
-order_kinds : (a b : Kind) (R : Shape) → (need (comparison lt a b) (check_number wrong_type) >>= λ _. ok R) ≡ (guard (pairs 0 a b) (check_number wrong_type) >>= λ _. ok R)
+order_kinds : (a b : Kind) (R : Shape) → (need (comparison lt a b) (check_number wrong_type) >>= λ _. ok R) ≡ (guard (pairs Numbers a b) (check_number wrong_type) >>= λ _. ok R)
 unfolding comparison pairs pick relation_of relates_ref only_if need guard ◌>>=◌ same kind_number
 order_kinds a b R = by a (same a b)
   where
@@ -68,13 +70,13 @@ order_kinds a b R = by a (same a b)
     by reference true = refl
     by a false = refl
 
-pub jump_same : (g : ℕ) (S : Shape) → g ≡ 35 → jump_effect (jump_by g) S ≡ when_effect 3 S
+pub jump_same : (g : ℕ) (S : Shape) → g ≡ 35 → jump_effect (jump_by g) S ≡ when_effect Alike S
 unfolding jump_by pick
-jump_same g S e = rw e (compared eq 3 same_kinds S)
+jump_same g S e = rw e (compared eq Alike same_kinds S)
 
-pub jump_order : (g : ℕ) (S : Shape) → (g ≡ 33 → ⊥) → (g ≡ 34 → ⊥) → (g ≡ 35 → ⊥) → jump_effect (jump_by g) S ≡ when_effect 0 S
+pub jump_order : (g : ℕ) (S : Shape) → (g ≡ 33 → ⊥) → (g ≡ 34 → ⊥) → (g ≡ 35 → ⊥) → jump_effect (jump_by g) S ≡ when_effect Numbers S
 unfolding jump_by pick
-jump_order g S a b c = rw (ne_eqb g 33 a, ne_eqb g 34 b, ne_eqb g 35 c) (compared lt 0 order_kinds S)
+jump_order g S a b c = rw (ne_eqb g 33 a, ne_eqb g 34 b, ne_eqb g 35 c) (compared lt Numbers order_kinds S)
 
 -- ---- Where a branch lands
 

@@ -3,4 +3,3 @@ pub mod Alike
 pub mod Arrivals
 pub mod Branches
 pub mod Visiting
-pub mod Answering

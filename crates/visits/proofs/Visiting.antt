@@ -18,13 +18,13 @@ use Rattle.model.specs.Code.{Act, and_then, row_of, class_of, field_of, method_o
 use Rattle.model.specs.Check.{Shape, Shapes, Site, starts, all_start, targets, falls, plain_falls, effect, arrive, arrivals, shape_at, visit}
 use Rattle.code.specs.declared.insn.Insn.{Insn}
 use Rattle.code.specs.Insn.{ins_of}
-use Rattle.shapes.specs.Pool.{Pool, Shows, Fine}
-use Rattle.visits.specs.declared.fault.FaultKind.TheVariants.{Operand}
-use Rattle.visits.specs.Effects.{Agrees, Takes}
+use Rattle.shapes.specs.declared.shape.Pool.{Pool}
+use Rattle.shapes.specs.Pool.{Shows, Fine, Agrees, Takes}
+use Rattle.shapes.specs.declared.fault.FaultKind.TheVariants.{Operand}
 use Rattle.check_operands.specs.Groups.{group_of, jump_by, target_by, call_by, field_by, plain_by, ins_by}
 use Rattle.visits.specs.Found.{Kept, Went, WentBy, Lands, landing, goes_on, jumped}
 use Rattle.visits.specs.Visits.{act_of, Visits}
-use Rattle.visits.specs.declared.fault.FaultKind.{FaultKind}
+use Rattle.shapes.specs.declared.fault.FaultKind.{FaultKind}
 use Rattle.visits.proofs.Arrivals.{failed}
 use Rattle.visits.proofs.Alike.{ins_for, act_for, operands_for, effect_for, falls_for, targets_for, group_law}
 

@@ -4,10 +4,11 @@ use Rattle.std.proofs.Math.Option.{Option, none, some}
 use Rattle.model.specs.Answer.{Answer, bad, ok, ◌>>=◌, guard, keep_if, only_if}
 use Rattle.model.specs.Code.{Jump, Ins, and_then}
 use Rattle.model.specs.Check.{Shape, Shapes, Site, starts, jump_falls, jump_effect, arrive}
-use Rattle.shapes.specs.Pool.{Pool, Shows}
-use Rattle.visits.specs.declared.fault.FaultKind.{FaultKind}
-use Rattle.visits.specs.declared.fault.FaultKind.TheVariants.{Operand, OtherShape}
-use Rattle.visits.specs.Faults.{number}
+use Rattle.shapes.specs.declared.shape.Pool.{Pool}
+use Rattle.shapes.specs.Pool.{Shows}
+use Rattle.shapes.specs.declared.fault.FaultKind.{FaultKind}
+use Rattle.shapes.specs.declared.fault.FaultKind.TheVariants.{Operand, OtherShape}
+use Rattle.shapes.specs.Faults.{number}
 
 -- 0 where no shape is found
 unfoldable pub Stands : Pool → ℕ → Option Shape → Type 0

@@ -1,10 +1,7 @@
 -- What the check notes of a method.
 use Rattle.std.specs.Prelude.{ℕ, ◌≡◌, List, length}
-use Rattle.shapes.specs.Pool.{Pool, pool, Fine}
-use Rattle.visits.specs.declared.notes.Pool.{Pool as Noted}
-
-abbrev pub seen : Noted → Pool
-seen p = pool p.tops p.belows p.heights p.made
+use Rattle.shapes.specs.declared.shape.Pool.{Pool}
+use Rattle.shapes.specs.Pool.{pool, Fine}
 
 -- the notes are ready for a method
 pub record Ready (found : List ℕ) (P : Pool) : Type 0 where

@@ -7,8 +7,9 @@ use Rattle.model.specs.Code.{Ins, Act, and_then, operands}
 use Rattle.model.specs.Check.{Shapes, Site, targets, all_start, visit}
 use Rattle.code.specs.declared.insn.Insn.{Insn}
 use Rattle.code.specs.Insn.{ins_of}
-use Rattle.shapes.specs.Pool.{Pool, Fine}
-use Rattle.visits.specs.declared.fault.FaultKind.{FaultKind}
+use Rattle.shapes.specs.declared.shape.Pool.{Pool}
+use Rattle.shapes.specs.Pool.{Fine}
+use Rattle.shapes.specs.declared.fault.FaultKind.{FaultKind}
 use Rattle.visits.specs.Found.{WentBy}
 
 -- an instruction's act, if its operands and targets are right

@@ -9,11 +9,8 @@ ghost use Rattle.shapes.specs.Pool.{pool, Fine};
 ghost use Rattle.check_operands.specs.Groups.{groups as group_table};
 ghost use Rattle.check_operands.specs.Held.{Held};
 ghost use Rattle.visits.specs.Found.{Starts, Kept};
-ghost use Rattle.visits.specs.Notes.{seen};
 ghost use Rattle.visits.specs.Visits.{act_of, Visits};
 
-use super::effects::answered;
-use super::fault::FaultKind;
 use super::notes::{Body, Notes};
 use super::tables::Tables;
 use super::visit::{arrived, lands, shape_at, visit_branch};
@@ -25,6 +22,7 @@ use check_operands::step::{plain, step};
 use code::insn::Insn;
 use loaded::columns::{METHOD, RETURN};
 use loaded::{Counts, Loaded};
+use shapes::fault::FaultKind;
 
 // One instruction.
 pub fn visit(
@@ -44,8 +42,8 @@ pub fn visit(
     ensures visits { ((M : Module) (m : Method) (all : List (Site Ins)) (F : Shapes) →
         Held M m loaded.now.counts body.row body.max loaded.now.parents loaded.now.fields loaded.now.methods →
         length m.code ≡ body.size → Starts all body.size notes.old.starts →
-        Fine (seen notes.old.pool) → Kept (seen notes.old.pool) body.size F notes.old.found →
-        Visits M m all F at i body.size result notes.new.found (seen notes.new.pool)) }
+        Fine notes.old.pool → Kept notes.old.pool body.size F notes.old.found →
+        Visits M m all F at i body.size result notes.new.found notes.new.pool) }
 {
     let g = group(&tables.groups, i.op);
     let s = shape_at(&mut notes.found, at);
@@ -61,41 +59,32 @@ pub fn visit(
         );
     }
     if g < CALL {
-        let gives = body.row * METHOD + RETURN;
-        let a = plain(
+        let after = plain(
+            &mut notes.pool,
             &loaded.parents,
             &loaded.methods,
-            &mut notes.pool.tops,
-            &mut notes.pool.belows,
-            &mut notes.pool.heights,
-            notes.pool.made,
             s,
             body.row,
-            loaded.methods[gives],
+            loaded.methods[body.row * METHOD + RETURN],
             body.max,
             g,
             i.op as usize,
             i.operand as usize,
         );
-        notes.pool.made = a.made;
-        return arrived(&notes.pool, &mut notes.found, body.size, i, g, answered(a));
+        return arrived(&notes.pool, &mut notes.found, body.size, i, g, after);
     }
-    let a = step(
+    let after = step(
+        &mut notes.pool,
         loaded.counts,
         &loaded.parents,
         &loaded.fields,
         &loaded.methods,
-        &mut notes.pool.tops,
-        &mut notes.pool.belows,
-        &mut notes.pool.heights,
-        notes.pool.made,
         s,
         body.max,
         g,
         i.operand,
     );
-    notes.pool.made = a.made;
-    arrived(&notes.pool, &mut notes.found, body.size, i, g, answered(a))
+    arrived(&notes.pool, &mut notes.found, body.size, i, g, after)
 }
 
 // Whether an instruction has an operand fault, or a target that starts no instruction.
@@ -124,13 +113,13 @@ pub fn refused(
         return undeclared(methods, row, g, op, i.operand as usize);
     }
     if g < CASTS {
-        return method_row(counts.methods, methods, i.operand, g - CALL) == 0;
+        return method_row(counts.methods, methods, i.operand, g - CALL).is_none();
     }
     if g == CASTS {
-        return class_row(counts.classes, i.operand) == 0;
+        return class_row(counts.classes, i.operand).is_none();
     }
     if g < LDSFLD {
-        return field_row(counts.fields, fields, i.operand, INSTANCE) == 0;
+        return field_row(counts.fields, fields, i.operand, INSTANCE).is_none();
     }
-    field_row(counts.fields, fields, i.operand, ONE_FOR_ALL) == 0
+    field_row(counts.fields, fields, i.operand, ONE_FOR_ALL).is_none()
 }

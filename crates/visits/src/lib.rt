@@ -1,8 +1,6 @@
 // One instruction of the check.
 #![tactic(auto)]
 
-mod effects; // what an effect answers
-pub mod fault; // what the check finds wrong
 pub mod instruction; // its operand, its effect, where its shape arrives
 pub mod notes; // what the check notes of a method
 pub mod tables; // lengths and groups

@@ -1,16 +1,7 @@
 // What the check notes of a method.
-ghost use Rattle.visits.specs.Notes.{Ready, seen};
+ghost use Rattle.visits.specs.Notes.{Ready};
 
-use shapes::shape::FIRST;
-
-// Of a shape, `tops` has the type on top, `belows` the shape under it, `heights` how many types it has; `made` numbers are in use.
-#[derive(Drop)]
-pub struct Pool {
-    pub tops: [u8; 2048],
-    pub belows: [u16; 2048],
-    pub heights: [u8; 2048],
-    pub made: usize,
-}
+use shapes::shape::Pool;
 
 // By offset, the length of the instruction that starts there and the number of the shape found before it, 0 where there is none; and the pool of shapes.
 #[derive(Drop)]
@@ -30,17 +21,12 @@ pub struct Body {
 
 impl Notes {
     pub fn new() -> Notes
-        ensures { Ready result.found (seen result.pool) }
+        ensures { Ready result.found result.pool }
     {
         Notes {
             starts: [0u8; 1024],
             found: [0u16; 1024],
-            pool: Pool {
-                tops: [0u8; 2048],
-                belows: [0u16; 2048],
-                heights: [0u8; 2048],
-                made: FIRST,
-            },
+            pool: Pool::new(),
         }
     }
 }

@@ -6,22 +6,18 @@ ghost use Rattle.model.specs.Tables.{Method, Module};
 ghost use Rattle.model.specs.Code.{Ins, operands};
 ghost use Rattle.model.specs.Check.{Shape, Shapes, Site, meet, effect, jump_effect, shape_at};
 ghost use Rattle.code.specs.Operand.{held, maybe};
-ghost use Rattle.shapes.specs.Pool.{Pool as Seen, Fine, Shows};
+ghost use Rattle.shapes.specs.declared.shape.Pool.{Pool as Seen};
+ghost use Rattle.shapes.specs.Pool.{Fine, Shows, Agrees, Takes};
 ghost use Rattle.check_operands.specs.Groups.{group_of, ins_by, jump_by, target_by};
-ghost use Rattle.visits.specs.Effects.{Agrees, Takes};
 ghost use Rattle.visits.specs.Found.{Kept, Starts, Read, Met, Went, WentBy, Lands, landing, goes_on, jumped};
-ghost use Rattle.visits.specs.Notes.{seen};
 ghost use Rattle.visits.specs.Visits.{Visits};
 
-use super::effects::answered;
-use super::fault::FaultKind;
-use super::notes::Pool;
 use check_operands::group::{BR, BR_EQUAL, BR_TEST, RET};
 use code::insn::Insn;
 use code::operand::{Distance, target};
-use shapes::effect::{test, when};
-use shapes::numbers::{ALIKE, NUMBERS};
-use shapes::shape::{EMPTY, SHAPES, same};
+use shapes::fault::FaultKind;
+use shapes::kind::Pair;
+use shapes::shape::{EMPTY, Pool, SHAPES};
 
 // The first opcode with a distance of four bytes.
 const FIRST_FAR: usize = 0x38;
@@ -42,14 +38,14 @@ pub fn found_at(found: &[u16; 1024], o: usize) -> Option<usize>
 pub fn meets(pool: &Pool, found: &mut [u16; 1024], o: usize, s: usize) -> Result<(), FaultKind>
     requires o_below { o < 1024 }
     requires s_below { s < 2048 }
-    ensures { (n : ℕ) (F : Shapes) (S : Shape) → Fine (seen pool.now) → Kept (seen pool.now) n F found.old → o < n → n ≤ 1024 →
-        Shows (seen pool.now) S s → Met (seen pool.now) n result found.new (meet F o S (get_or F o none)) }
+    ensures { (n : ℕ) (F : Shapes) (S : Shape) → Fine pool.now → Kept pool.now n F found.old → o < n → n ≤ 1024 →
+        Shows pool.now S s → Met pool.now n result found.new (meet F o S (get_or F o none)) }
 {
     let Some(f) = found_at(found, o) else {
         found[o] = s as u16;
         return Ok(());
     };
-    if same(&pool.tops, &pool.belows, &pool.heights, s, f) {
+    if pool.same(s, f) {
         return Ok(());
     }
     Err(FaultKind::OtherShape)
@@ -80,23 +76,15 @@ pub fn lands(starts: &[u8; 1024], size: usize, op: usize, next: usize, d: u64) -
 
 // The effect of a branch: 33 br, 34 brtrue and brfalse, 35 beq and bne.un, else another comparison.
 pub fn branch(pool: &Pool, s: usize, g: u8) -> Result<usize, FaultKind>
-    requires made_below { pool.now.made < 2048 }
     requires s_below { s < 2048 }
     ensures shape_below { IfOk result (λ r. r < 2048) }
-    ensures agrees { (S : Shape) → Fine (seen pool.now) → Shows (seen pool.now) S s → Agrees (seen pool.now) result (jump_effect (jump_by g) S) }
+    ensures agrees { (S : Shape) → Fine pool.now → Shows pool.now S s → Agrees pool.now result (jump_effect (jump_by g) S) }
 {
     match g {
         BR => Ok(s),
-        BR_TEST => answered(test(&pool.tops, &pool.belows, &pool.heights, pool.made, s)),
-        BR_EQUAL => answered(when(&pool.tops, &pool.belows, &pool.heights, pool.made, s, ALIKE)),
-        _ => answered(when(
-            &pool.tops,
-            &pool.belows,
-            &pool.heights,
-            pool.made,
-            s,
-            NUMBERS,
-        )),
+        BR_TEST => pool.test(s),
+        BR_EQUAL => pool.when(s, Pair::Alike),
+        _ => pool.when(s, Pair::Numbers),
     }
 }
 
@@ -110,8 +98,8 @@ fn onward(
 ) -> Result<(), FaultKind>
     requires size_at_most { size ≤ 1024 }
     requires s_below { s < 2048 }
-    ensures { (F : Shapes) (S : Shape) → Fine (seen pool.now) → Kept (seen pool.now) size F found.old → Shows (seen pool.now) S s →
-        Went (seen pool.now) size result found.new (goes_on size F true next [] S) }
+    ensures { (F : Shapes) (S : Shape) → Fine pool.now → Kept pool.now size F found.old → Shows pool.now S s →
+        Went pool.now size result found.new (goes_on size F true next [] S) }
 {
     if size <= next {
         return Err(FaultKind::FallsPast);
@@ -131,9 +119,9 @@ pub fn arrived(
     requires size_at_most { size ≤ 1024 }
     requires shape_below { IfOk after (λ s. s < 2048) }
     ensures { (M : Module) (m : Method) (all : List (Site Ins)) (F : Shapes) (o : ℕ) → length m.code ≡ size → g ≡ group_of i.op → g < 33 →
-        Fine (seen pool.now) → Kept (seen pool.now) size (set F o (some (shape_at F o))) found.old →
-        Takes (seen pool.now) after (λ x. effect M m x (shape_at F o)) (operands M m (ins_by g i.op i.operand 0)) →
-        Visits M m all F o i size result found.new (seen pool.now) }
+        Fine pool.now → Kept pool.now size (set F o (some (shape_at F o))) found.old →
+        Takes pool.now after (λ x. effect M m x (shape_at F o)) (operands M m (ins_by g i.op i.operand 0)) →
+        Visits M m all F o i size result found.new pool.now }
 {
     let s = after?;
     if g == RET {
@@ -156,8 +144,8 @@ pub fn visit_branch(
     requires made_below { pool.now.made < 2048 }
     requires s_below { s < 2048 }
     ensures { (all : List (Site Ins)) (F : Shapes) (S : Shape) → Starts all size starts.now →
-        Fine (seen pool.now) → Kept (seen pool.now) size F found.old → Shows (seen pool.now) S s →
-        WentBy (seen pool.now) size result found.new (jumped size F (jump_by g) i.next S) (landing all size (target_by i.op i.next i.operand)) }
+        Fine pool.now → Kept pool.now size F found.old → Shows pool.now S s →
+        WentBy pool.now size result found.new (jumped size F (jump_by g) i.next S) (landing all size (target_by i.op i.next i.operand)) }
 {
     let Some(t) = lands(starts, size, i.op as usize, i.next, i.operand) else {
         return Err(FaultKind::Operand);

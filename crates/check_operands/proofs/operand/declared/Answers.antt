@@ -1,19 +1,13 @@
 use Rattle.check_operands.proofs.Operands.{type_none, type_some}
-use native.Mathlib.Omega.{arith}
-use Prim.Native.Nat.{◌+◌, ◌*◌}
+use Rattle.std.proofs.Common.{arith, refl, ◌≤◌, ◌<◌, ◌+◌, ◌*◌, min, get_or}
 use Rattle.check_operands.proofs.operand.declared.Goals as goal
 
-pub returns-then-most-i : goal.returns-then-most-i
-returns-then-most-i c =
-    λ ts e l t. type_none ts _ (omega arith)
-
-pub returns-then-wide-i : goal.returns-then-wide-i
-returns-then-wide-i c =
-    λ ts e l t. let k = c.wide.ensures.0 in type_none ts _ (omega (arith, k))
+pub returns-then-min-i : goal.returns-then-min-i
+returns-then-min-i c = λ ts e l t.
+    let k : min c.args.most (get_or c.args.methods.now (c.args.row * 32 + c.args.column) 0) ≤ c.args.i = rw (← c.min.ensures) c.if-min-i.true in
+    type_none ts _ (omega arith)
 
 pub returns : goal.returns
-returns c =
-    let start = c in
-    let the-wide = c.wide in
-    λ ts e l t. let k = the-wide.ensures.0 in type_some start.args.methods.now (start.args.row * 32 + start.args.from) ts _ _
-    (omega (arith, k)) t c.wide-2.ensures.0 c.wide-2.ensures.1
+returns c = λ ts e l t.
+    let k : c.args.i < min c.args.most (get_or c.args.methods.now (c.args.row * 32 + c.args.column) 0) = rw (← c.min.ensures) c.if-min-i.false in
+    type_some c.args.methods.now (c.args.row * 32 + c.args.from) ts _ _ (omega arith) t refl

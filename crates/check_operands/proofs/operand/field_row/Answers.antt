@@ -1,11 +1,8 @@
-use Rattle.check_operands.proofs.Operands.{flagged, unflagged}
-use borrow.Author.Rules.{rules}
+use Rattle.check_operands.proofs.Operands.{flagged, unnamed_none}
 use Rattle.check_operands.proofs.operand.field_row.Goals as goal
 
-pub returns-then-fields-at : goal.returns-then-fields-at
-returns-then-fields-at c = let start = c in
-    let the-token-row = c.token_row-r in
-    record { result_at_most = the-token-row.ensures.result_at_most; as_model = λ l. flagged start.args.fields.now _ _ _ (the-token-row.ensures.as_model l) c.if-fields-at.true }
+pub returns-in_err-r-clause-as_model : goal.returns-in_err-r-clause-as_model
+returns-in_err-r-clause-as_model c = λ l. rw c.from_residual.ensures (unnamed_none _ _ (c.in_err-r.ensures.as_model l))
 
-pub returns : goal.returns
-returns c = record { result_at_most = search rules; as_model = λ l. unflagged c.args.fields.now _ _ _ (c.token_row-r.ensures.as_model l) c.if-fields-at.false }
+pub returns-clause-as_model : goal.returns-clause-as_model
+returns-clause-as_model c = λ l. rw c.then_some.ensures (flagged c.args.fields.now _ _ _ (c.in_ok-r.ensures.as_model l))

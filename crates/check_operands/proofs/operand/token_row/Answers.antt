@@ -1,14 +1,22 @@
-use Rattle.check_operands.proofs.Operands.{token_none, token_past, token_here}
-use borrow.Author.Rules.{rules}
+use Rattle.std.proofs.Common.{arith, ◌≤◌, ◌<◌, min}
+use Rattle.check_operands.proofs.Operands.{token_none, token_zero, token_past, token_here}
 use Rattle.check_operands.proofs.operand.token_row.Goals as goal
 
-pub returns-then-n-r : goal.returns-then-n-r
-returns-then-n-r c = record { result_at_most = search rules; as_model = λ l. token_past _ _ _ _ c.row_of.ensures c.in-Some.is c.if-n-r.true }
+pub returns-in_err-r-clause-as_model : goal.returns-in_err-r-clause-as_model
+returns-in_err-r-clause-as_model c = λ l. rw c.from_residual.ensures (token_none _ _ c.in_err-r.ensures)
 
-pub returns-in-None : goal.returns-in-None
-returns-in-None c = record { result_at_most = search rules; as_model = λ l. token_none _ _ _ c.row_of.ensures c.in-None.is }
+pub returns-then-r-eq0-clause-as_model : goal.returns-then-r-eq0-clause-as_model
+returns-then-r-eq0-clause-as_model c = λ l. token_zero _ _ _ c.in_ok-r.ensures c.if-r-eq0.true
 
-pub returns-else-most-r : goal.returns-else-most-r
-returns-else-most-r c = let the-row-of = c.row_of in
-    let the-if1 = c.if-n-r in
-    record { result_at_most = search rules; as_model = λ l. token_here _ _ _ _ the-row-of.ensures c.in-Some.is the-if1.false }
+pub returns-then-min-r-clause-as_model : goal.returns-then-min-r-clause-as_model
+returns-then-min-r-clause-as_model c = λ l.
+    let k : min c.args.n c.args.most < c.in_ok-r.r = rw (← c.min.ensures) c.if-min-r.true in token_past _ _ _ c.in_ok-r.ensures (omega arith)
+
+pub returns-clause-result_at_most : goal.returns-clause-result_at_most
+returns-clause-result_at_most c =
+    let k : c.in_ok-r.r ≤ min c.args.n c.args.most = rw (← c.min.ensures) c.if-min-r.false in omega arith
+
+pub returns-clause-as_model : goal.returns-clause-as_model
+returns-clause-as_model c = λ l.
+    let k : c.in_ok-r.r ≤ min c.args.n c.args.most = rw (← c.min.ensures) c.if-min-r.false in
+    token_here _ _ _ c.in_ok-r.ensures c.if-r-eq0.false (omega arith)

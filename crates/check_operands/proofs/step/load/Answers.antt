@@ -1,21 +1,12 @@
-use Rattle.check_operands.proofs.Operands.{no_type, a_type, lacks, has}
-use Rattle.shapes.specs.Pool.{pool}
+use Rattle.std.proofs.Common.{refl}
 use Rattle.model.specs.Check.{pushes}
-use mathlib.Core.Path.{refl}
-use borrow.Author.Rules.{rules}
+use Rattle.check_operands.proofs.Operands.{no_type, a_type, lacks, has}
 use Rattle.check_operands.proofs.step.load.Goals as goal
 
-pub returns-then-t-gt-LAST_TYPE : goal.returns-then-t-gt-LAST_TYPE
-returns-then-t-gt-LAST_TYPE c = let start = c in
-    let the-if1 = c.if-t-gt-LAST_TYPE in
-    record { small = search rules; operand = λ m o e t f S w. lacks ((pool start.args.tops.now start.args.belows.now start.args.heights.now start.args.made)) c.fault.result (λ u. pushes m u S) o (no_type o _ t the-if1.true) c.fault.ensures f }
+pub returns-in-Some-clause-operand : goal.returns-in-Some-clause-operand
+returns-in-Some-clause-operand c = λ m o e t f S w.
+    let d = a_type o _ _ t c.in-Some.is in
+    has _ _ _ (λ u. pushes m u S) o d.type (pushes m d.type S) d.is refl (c.push.ensures.effect m d.type e d.byte f S w)
 
-pub returns : goal.returns
-returns c = let start = c in
-    let the-if1 = c.if-t-gt-LAST_TYPE in
-    record {
-      small = c.push.ensures.small;
-      operand = λ m o e t f S w.
-          let d = a_type o _ t the-if1.false in
-          has ((pool start.args.tops.now start.args.belows.now start.args.heights.now start.args.made)) _ _ (λ u. pushes m u S) o d.type (pushes m d.type S) d.is refl (c.push.ensures.effect m d.type e d.byte f S w);
-    }
+pub returns-in-None-clause-operand : goal.returns-in-None-clause-operand
+returns-in-None-clause-operand c = λ m o e t f S w. lacks _ (λ u. pushes m u S) o (no_type o _ t c.in-None.is) f

@@ -6,12 +6,11 @@ use mathlib.Core.Path.{ap}
 use Rattle.check_operands.proofs.step.step.Goals as goal
 
 pub returns-then-g-lt-CASTS : goal.returns-then-g-lt-CASTS
-returns-then-g-lt-CASTS c = let start = c in
-    let the-if1 = c.if-g-lt-CASTS in
+returns-then-g-lt-CASTS c = let the-if1 = c.if-g-lt-CASTS in
     record {
       small = c.calls.ensures.small;
       operand = λ M m op x C D K l f S w. renamed _ _ _ (λ a. effect M m a S) _ _
-          (ap (operands M m) (ins_call _ _ _ _ start.requires.g_positive the-if1.true)) (c.calls.ensures.operand M m x C.parent K (omega arith) f S w);
+          (ap (operands M m) (ins_call _ _ _ _ c.requires.g_positive the-if1.true)) (c.calls.ensures.operand M m x C.parent K (omega arith) f S w);
     }
 
 pub returns-then-g-eq-CASTS : goal.returns-then-g-eq-CASTS

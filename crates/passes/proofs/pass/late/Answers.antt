@@ -1,3 +1,4 @@
+use Rattle.std.proofs.Common.{refl}
 use Rattle.passes.proofs.Loops.{searching_start, searching_end, searching_fault, searching_next, reading_size, reading_some, reading_on}
 use Rattle.passes.proofs.Loops.{reading_next}
 use lib.ListN.{length}
@@ -17,9 +18,9 @@ pub known-i-requires : goal.known-i-requires
 known-i-requires c = let the-loop = c.loop-at in
     let the-loop-test = c.loop-at-test in
     record {
-      size_is = reading_size _ _ _ the-loop.invariant.0 the-loop-test.true _ c.wide.ensures.0;
+      size_is = reading_size _ _ _ the-loop.invariant.0 the-loop-test.true _ refl;
       size_positive = reading_some _ _ _ the-loop.invariant.0 the-loop-test.true _
-          c.wide.ensures.0;
+          refl;
     }
 
 pub refused-requires : goal.refused-requires
@@ -30,30 +31,27 @@ returns-then-refused c =
     let start = c in
     let the-loop = c.loop-at in
     let the-loop-test = c.loop-at-test in
-    let the-wide = c.wide in
     let the_known = c.known-i in
     let the-refused = c.refused in
     λ M m all l max H e st q. searching_fault M m all l start.args.code.now the-loop.at (the-loop.invariant.1 M m all l max H e st q)
-    the-loop-test.true _ the_known.ensures.decode_is (reading_on _ _ _ the-loop.invariant.0 the-loop-test.true _ the-wide.ensures.0 _
+    the-loop-test.true _ the_known.ensures.decode_is (reading_on _ _ _ the-loop.invariant.0 the-loop-test.true _ refl _
     the_known.ensures.next_is) _ (sym c.if-refused.true ∙ the-refused.ensures M m all max c.args.loaded.now.parents c.args.tables.now.right_groups H (ap length e) st)
 
 pub loop-at-smaller : goal.loop-at-smaller
 loop-at-smaller c =
     let the-loop = c.loop-at in
     let the-loop-test = c.loop-at-test in
-    let the-wide = c.wide in
     let the_known = c.known-i in
-    omega (arith, reading_on _ _ _ the-loop.invariant.0 the-loop-test.true _ the-wide.ensures.0 _ the_known.ensures.next_is)
+    omega (arith, reading_on _ _ _ the-loop.invariant.0 the-loop-test.true _ refl _ the_known.ensures.next_is)
 
 pub loop-at-preserved : goal.loop-at-preserved
 loop-at-preserved c =
     let start = c in
     let the-loop = c.loop-at in
     let the-loop-test = c.loop-at-test in
-    let the-wide = c.wide in
     let the_known = c.known-i in
     let the-refused = c.refused in
-    let w = reading_on _ _ _ the-loop.invariant.0 the-loop-test.true _ the-wide.ensures.0 _ the_known.ensures.next_is in (
+    let w = reading_on _ _ _ the-loop.invariant.0 the-loop-test.true _ refl _ the_known.ensures.next_is in (
       reading_next _ _ _ _ the-loop.invariant.0 the-loop-test.true the_known.ensures.decode_is w,
       λ M m all l max H e st q. searching_next M m all l
           start.args.code.now the-loop.at (the-loop.invariant.1 M m all l max H e st q) the-loop-test.true _ the_known.ensures.decode_is w

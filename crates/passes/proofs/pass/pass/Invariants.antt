@@ -3,7 +3,6 @@ use Rattle.passes.specs.Fused.{Reading, nothing}
 use Rattle.visits.specs.Found.{Starts, Kept}
 use Rattle.check_operands.specs.Held.{Held}
 use Rattle.shapes.specs.Pool.{Fine}
-use Rattle.visits.specs.Notes.{seen}
 use Rattle.model.specs.Check.{Site, decode_from}
 use Rattle.model.specs.Code.{Ins}
 use Rattle.model.specs.Tables.{Method, Module}
@@ -18,9 +17,9 @@ abbrev pub invariant-loop-at : goal.invariant-loop-at
 invariant-loop-at l =
     (l.notes.pool.made ≤ l.at + 2) × Reading l.code l.notes.starts l.at × ((M : Module) (m : Method) (all : List (Site Ins))
     → Held M m l.loaded.counts l.row l.max l.loaded.parents l.loaded.fields l.loaded.methods → m.code ≡ l.code
-    → Starts all (length l.code) l.initial.notes.starts → decode_from (length l.code) l.code 0 ≡ ok all → Fine (seen l.initial.notes.pool)
-    → Kept (seen l.initial.notes.pool) (length l.code) (nothing (length l.code)) l.initial.notes.found
-    → Starts all (length l.code) l.notes.starts × Going M m all l.code (seen l.notes.pool) l.notes.found l.at)
+    → Starts all (length l.code) l.initial.notes.starts → decode_from (length l.code) l.code 0 ≡ ok all → Fine l.initial.notes.pool
+    → Kept l.initial.notes.pool (length l.code) (nothing (length l.code)) l.initial.notes.found
+    → Starts all (length l.code) l.notes.starts × Going M m all l.code l.notes.pool l.notes.found l.at)
 
 abbrev pub decreases-loop-at : goal.decreases-loop-at
 decreases-loop-at l =

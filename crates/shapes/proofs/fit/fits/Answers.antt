@@ -23,10 +23,5 @@ returns-then-t-lt-CLASS c =
 
 pub returns : goal.returns
 returns c =
-    let the-if1 = c.if-t-u in
-    let the-if2 = c.if-u-lt-CLASS in
-    let the-if4 = c.if-t-lt-CLASS in
-    let the-wide = c.wide in
-    let the-wide2 = c.wide-2 in
-    λ ps A B p e q. c.descends.ensures ps p ∙ (rw (the-wide.ensures.0, the-wide2.ensures.0, ← e, ← q)
-    (fits_class_lem ps A B (λ z. the-if1.false (sym e ∙ (z ∙ q))) (rw q the-if2.false) (rw e the-if4.false)))
+    λ ps A B p e q. c.descends.ensures ps p ∙ (rw (← e, ← q)
+    (fits_class_lem ps A B (λ z. c.if-t-u.false (sym e ∙ (z ∙ q))) (rw q c.if-u-lt-CLASS.false) (rw e c.if-t-lt-CLASS.false)))

@@ -1,7 +1,6 @@
 use Rattle.visits.proofs.Visiting.{marked, branch_visit}
 use Rattle.check_operands.proofs.Operands.{renamed, ins_plain}
 use Rattle.visits.proofs.Arrivals.{kept_later}
-use Rattle.visits.specs.Notes.{seen}
 use Rattle.model.specs.Check.{shape_at, effect}
 use Rattle.model.specs.Code.{operands}
 use native.Mathlib.Omega.{arith}
@@ -11,7 +10,7 @@ use Rattle.visits.proofs.instruction.visit.Goals as goal
 pub returns-then-g-ge-BR-clause-visits : goal.returns-then-g-ge-BR-clause-visits
 returns-then-g-ge-BR-clause-visits c =
     λ M m all F H z st f k.
-    let P = seen c.args.notes.now.pool in
+    let P = c.args.notes.now.pool in
     let sh = c.shape_at-s.ensures.shows P c.args.body.size F f k c.requires.at_below c.requires.size_at_most in
     branch_visit M m all F c.args.at c.args.i c.args.body.size _ _ P _ (c.group-g.ensures c.args.tables.now.right_groups) c.if-g-ge-BR.true z
     (c.visit_branch.ensures all (marked F c.args.at) (shape_at F c.args.at) st f sh.1 sh.0) f
@@ -19,18 +18,18 @@ returns-then-g-ge-BR-clause-visits c =
 pub returns-then-g-lt-CALL-clause-visits : goal.returns-then-g-lt-CALL-clause-visits
 returns-then-g-lt-CALL-clause-visits c =
     λ M m all F H z st f k.
-    let P = seen c.args.notes.now.pool in
+    let P = c.args.notes.now.pool in
     let sh = c.shape_at-s.ensures.shows P c.args.body.size F f k c.requires.at_below c.requires.size_at_most in
     let t = renamed P _ _ (λ a. effect M m a (shape_at F c.args.at)) _ _ (ap (operands M m) (ins_plain _ _ _ _ c.if-g-lt-CALL.true))
-    (c.plain-a.ensures.operand M m H.by_class.parent H.own f (shape_at F c.args.at) sh.0) in
+    (c.plain-after.ensures.operand M m H.by_class.parent H.own f (shape_at F c.args.at) sh.0) in
     c.arrived.ensures M m all F c.args.at z (c.group-g.ensures c.args.tables.now.right_groups) (omega arith) t.1.fine
-    (kept_later P _ _ _ _ f t.1 sh.1) (c.answered.ensures.takes _ _ _ t.0)
+    (kept_later P _ _ _ _ f t.1 sh.1) t.0
 
 pub returns-clause-visits : goal.returns-clause-visits
 returns-clause-visits c =
     λ M m all F H z st f k.
-    let P = seen c.args.notes.now.pool in
+    let P = c.args.notes.now.pool in
     let sh = c.shape_at-s.ensures.shows P c.args.body.size F f k c.requires.at_below c.requires.size_at_most in
-    let t = c.step-a.ensures.operand M m c.args.i.op H.own.most H.by_class H.by_field H.by_method c.if-g-ge-BR.false f (shape_at F c.args.at) sh.0 in
+    let t = c.step-after.ensures.operand M m c.args.i.op H.own.most H.by_class H.by_field H.by_method c.if-g-ge-BR.false f (shape_at F c.args.at) sh.0 in
     c.arrived-2.ensures M m all F c.args.at z (c.group-g.ensures c.args.tables.now.right_groups) c.if-g-ge-BR.false t.1.fine
-    (kept_later P _ _ _ _ f t.1 sh.1) (c.answered-2.ensures.takes _ _ _ t.0)
+    (kept_later P _ _ _ _ f t.1 sh.1) t.0
