@@ -17,7 +17,8 @@ use Rattle.loaded.specs.declared.Loaded.{Loaded}
 use Rattle.loaded.specs.Holds.{Holds}
 use Rattle.loader.specs.declared.notes.Notes.{Notes}
 use Rattle.loader.specs.Kinds.{last_byte}
-use Rattle.loader.specs.Answers.{Answers, fault_of}
+use Rattle.loader.specs.Refusals.{fault_of}
+use Rattle.loader.specs.Answers.{Answers}
 use Rattle.loader.specs.Stands.{field_column, field_at, method_column, root_at, method_cell, part_cell, MethodCells, Sound, Stands, counts_of, Earlier}
 use Rattle.loader.proofs.Methods.{argument_column, local_column}
 use Rattle.loader.proofs.Climb.{fine, low_overrides}

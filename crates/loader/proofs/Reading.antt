@@ -21,8 +21,8 @@ use Rattle.loader.specs.declared.refusal.Refusal.{Refusal}
 use Rattle.loader.specs.declared.refusal.Refusal.TheVariants.{BadRecord}
 use Rattle.loader.specs.declared.kind.Kind.{Kind}
 use Rattle.loader.specs.declared.kind.Kind.TheVariants.{Class, Field, Method as MethodKind, Parameter, Local, Entry}
-use Rattle.loader.specs.Refusals.{number_of}
-use Rattle.loader.specs.Answers.{Answers, fault_of}
+use Rattle.loader.specs.Refusals.{number_of, fault_of}
+use Rattle.loader.specs.Answers.{Answers}
 use Rattle.loader.specs.Kinds.{kind_byte}
 use Rattle.loader.specs.Goes.{Goes}
 use Rattle.loader.specs.Stands.{Column, Grid, field_at, method_column, root_at, method_cell, part_cell, Sound, Stands, Leads, Passes, counts_of, no_notes}

@@ -3,10 +3,7 @@ use Rattle.std.specs.Prelude.{◌≤◌, ◌≡◌, Result, Ok, Err}
 use Rattle.model.specs.Answer.{Answer, bad, ok}
 use Rattle.model.specs.Loading.{Refusal}
 use Rattle.loaded.specs.declared.Fault.{Fault}
-
--- a refusal has its place in the tables as offset
-abbrev pub fault_of : Refusal → Fault
-fault_of f = record { number = f.number; method = 0; offset = f.place }
+use Rattle.loader.specs.Refusals.{fault_of}
 
 -- a refusal with its number, which is not 0, and its place, and what is said of one; or what is said of the value and what is loaded
 unfoldable pub Answers : {A M : Type 0} → Answer Refusal M → Result A Fault → Type 0 → (A → M → Type 0) → Type 0

@@ -1,7 +1,6 @@
 // Why a module is refused, and where.
 ghost use Rattle.std.specs.Prelude.{◌≡◌};
-ghost use Rattle.loader.specs.Answers.{fault_of};
-ghost use Rattle.loader.specs.Refusals.{number_of};
+ghost use Rattle.loader.specs.Refusals.{number_of, fault_of};
 
 use loaded::Fault;
 
