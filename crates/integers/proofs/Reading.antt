@@ -6,14 +6,8 @@ use mir.Val.{bits, hbits, sel}
 use mir.Facts.{of_z-to_z, sfits_to_z, sfits_widen}
 use mir.ValLaws.{Fits-wrap}
 use Rattle.model.specs.Operators.{holds}
-use Rattle.integers.specs.Cells.{OfCell, width_of, low}
+use Rattle.integers.specs.Cells.{OfCell, low}
 use Rattle.integers.specs.Cells.OfCell.{narrow, wide}
-
-pub to_z_high : (w : Width) {x : ℕ} → 2 ^ hbits w ≤ x → to_z w x ≡ negsuc (2 ^ bits w - suc x)
-to_z_high w {x} l = ap (λ (b : Bool). sel b (pos x) (negsuc (2 ^ bits w - suc x))) (le-ltb x (2 ^ hbits w) l)
-
-pub low_fits : (b : Bool) (a : ℕ) → Fits (width_of b) (low (width_of b) a)
-low_fits b a = Fits-wrap (width_of b) a
 
 -- cutting to 64 bits first changes nothing
 pub cut : {w : Width} → OfCell w → (n : ℕ) → low w (n % 2 ^ 64) ≡ low w n

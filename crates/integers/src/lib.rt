@@ -9,7 +9,7 @@ ghost use mir.Val.{bits, to_z, of_z};
 ghost use Rattle.model.specs.Answer.{ok};
 ghost use Rattle.model.specs.Code.{add, sub, mul, div, rem, div_un, rem_un, and, or, xor, add_ovf, mul_ovf, sub_ovf, shl, shr, shr_un, eq, lt, le, lt_un, le_un};
 ghost use Rattle.model.specs.Operators.{wrap, holds, integer, whole_of, shifted, relates};
-ghost use Rattle.integers.specs.Cells.{OfCell, width_of, low};
+ghost use Rattle.integers.specs.Cells.{OfCell, low};
 ghost use Rattle.integers.specs.Answers.{number_of, answer};
 ghost use Rattle.integers.specs.Parts.{quotient_of, fitting};
 
@@ -110,20 +110,6 @@ impl Integer for i64 {
     }
 
     ghost of_cell = { OfCell.wide };
-}
-
-// The bits of a cell that count, of an int64 if `wide`.
-pub fn low(wide: bool, a: u64) -> u64
-    ensures { result ≡ low (width_of wide) a }
-{
-    if wide { i64::low(a) } else { i32::low(a) }
-}
-
-// That cell as a signed number.
-pub fn value(wide: bool, a: u64) -> i64
-    ensures { result ≡ to_z (width_of wide) (low (width_of wide) a) }
-{
-    if wide { i64::value(a) } else { i32::value(a) }
 }
 
 // ---- add, sub, mul, neg: the result wraps

@@ -27,8 +27,8 @@ impl<'a> Text<'a> {
         ensures { self.new ≡ appended self.old (text_of (value_of value)) }
     {
         match value {
-            Value::Int32(n) => self.signed(false, n),
-            Value::Int64(n) => self.signed(true, n),
+            Value::Int32(n) => self.signed::<i32>(n),
+            Value::Int64(n) => self.signed::<i64>(n),
             Value::Real(n) => self.hex(REAL_DIGITS, n),
             Value::None | Value::Null | Value::Object(_) => self.put(b'-'),
         }

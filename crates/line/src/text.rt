@@ -2,7 +2,7 @@
 ghost use Rattle.std.specs.Prelude.{◌≡◌, [], ◌∷◌, ◌++◌, ◌<◌};
 ghost use mir.Val.{to_z};
 ghost use Rattle.model.specs.Turn.{decimal, signed, space, hex_digit, hex};
-ghost use Rattle.integers.specs.Cells.{width_of, low};
+ghost use Rattle.integers.specs.Cells.{low};
 ghost use Rattle.line.specs.Append.{appended};
 
 use itoa::{Buffer, Integer};
@@ -76,11 +76,11 @@ impl<'a> Text<'a> {
         self.put(b' ');
     }
 
-    // A cell in decimal, with its sign: an int64 if `wide`, else the int32 in its low 32 bits.
-    pub fn signed(&mut self, wide: bool, a: u64)
-        ensures { self.new ≡ appended self.old (signed (to_z (width_of wide) (low (width_of wide) a))) }
+    // A cell in decimal, with its sign: an int64, or the int32 in its low 32 bits.
+    pub fn signed<I: integers::Integer>(&mut self, a: u64)
+        ensures { self.new ≡ appended self.old (signed (to_z I.width (low I.width a))) }
     {
-        self.integer(integers::value(wide, a));
+        self.integer(I::value(a));
     }
 
     // A digit of a base up to 16, upper-case.

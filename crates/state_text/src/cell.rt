@@ -48,11 +48,11 @@ pub fn cell(text: &mut Text, kind: u8, bits: u64)
     match kind {
         1 => {
             text.put(b'i');
-            text.signed(false, bits);
+            text.signed::<i32>(bits);
         }
         2 => {
             text.put(b'l');
-            text.signed(true, bits);
+            text.signed::<i64>(bits);
         }
         3 => {
             text.put(b'f');

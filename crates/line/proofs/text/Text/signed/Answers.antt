@@ -6,6 +6,6 @@ use Rattle.line.proofs.Spelling.{printed_signed}
 use Rattle.line.proofs.text.Text.signed.Goals as goal
 
 pub returns : goal.returns
-returns c =
+returns g c =
     c.integer.ensures
     ∙ ap (appended c.args.self.now) (printed_signed c.value.result c.value.type_inv ∙ ap signed c.value.ensures)
