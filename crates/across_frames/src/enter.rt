@@ -28,7 +28,8 @@ fn clear_four(cells: &mut [u64; 2048], at: usize)
     cells[at + 3] = 0;
 }
 
-// n locals cleared, four at a time: what is past them is dead. A loop would become a call.
+// n locals cleared, four at a time: what is past them is dead.
+// Stays: `entered`, which the clause `as_model` of `enter` cites, clears by `fours`, so a loop over n does not meet it.
 fn clear(cells: &mut [u64; 2048], at: usize, n: usize)
     requires { (at + 16 ≤ 2048) × (n ≤ 16) }
     ensures { cells.new ≡ cleared (fours n) at cells.old }
@@ -63,6 +64,7 @@ fn copy_four(cells: &mut [u64; 2048], from: usize, to: usize)
 }
 
 // n cells of the stack laid in the arguments of the next frame, four at a time: what is past them is dead.
+// Stays: `invoke_w` and `made_w`, which the clauses of `call` and `newobj` cite, copy by `fours`, so a loop over n does not meet them.
 pub fn copy(cells: &mut [u64; 2048], from: usize, to: usize, n: usize)
     requires { (from + 8 ≤ to) × (to + 8 ≤ 2048) × (n ≤ 8) }
     ensures { cells.new ≡ copy_of (fours n) cells.old from to cells.old }
