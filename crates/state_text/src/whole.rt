@@ -42,6 +42,7 @@ pub fn say(
 }
 
 // The same after what `out` holds up to `at`.
+// Stays: docs/PROMISES.md promises this function with its arrays lent one by one.
 pub fn state(
     out: &mut [u8],
     at: usize,
