@@ -30,31 +30,17 @@ pub fn lay_fault(out: &mut [u64], f: Fault)
     out[2] = f.offset as u64;
 }
 
-// The sort of a value: 0 none, 1 int32, 2 int64, 3 F. No entry returns a reference.
-fn sort_of(value: Value) -> u64
-    ensures { result ≡ sort_of value }
+// The sort of a value, 0 none, 1 int32, 2 int64, 3 F, and its bits, of an int32 with its sign. No entry returns a reference.
+fn sort_and_bits(value: Value) -> (u64, u64)
+    ensures { result ≡ (sort_of value, bits_of value) }
 {
     match value {
-        Value::None => NO_VALUE,
-        Value::Int32(_) => INT32,
-        Value::Int64(_) => INT64,
-        Value::Real(_) => F,
-        Value::Null => NO_VALUE,
-        Value::Object(_) => NO_VALUE,
-    }
-}
-
-// The bits of a value, of an int32 with its sign.
-fn bits_of(value: Value) -> u64
-    ensures { result ≡ bits_of value }
-{
-    match value {
-        Value::None => 0,
-        Value::Int32(bits) => bits,
-        Value::Int64(bits) => bits,
-        Value::Real(bits) => bits,
-        Value::Null => 0,
-        Value::Object(_) => 0,
+        Value::Int32(bits) => (INT32, bits),
+        Value::Int64(bits) => (INT64, bits),
+        Value::Real(bits) => (F, bits),
+        Value::None => (NO_VALUE, 0),
+        Value::Null => (NO_VALUE, 0),
+        Value::Object(_) => (NO_VALUE, 0),
     }
 }
 
@@ -64,7 +50,8 @@ pub fn lay_answer(out: &mut [u64], summary: Summary)
     ensures { out.new ≡ over (told_cells summary.end summary.steps summary.value) out.old }
 {
     lay_fault(out, summary.end);
+    let (sort, bits) = sort_and_bits(summary.value);
     out[3] = summary.steps;
-    out[4] = sort_of(summary.value);
-    out[5] = bits_of(summary.value);
+    out[4] = sort;
+    out[5] = bits;
 }

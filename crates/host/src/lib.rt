@@ -24,6 +24,7 @@ use state::State;
 use states::lay_state;
 
 // What is said of the cells that were lent.
+// Stays: a number, which C reads (the C interface).
 const WRITTEN: u32 = 0;
 
 const TOO_FEW: u32 = 1;

@@ -1,5 +1,6 @@
 // The functions of crate `host` under the names by which C calls them. A crate is a library or a static library, so they are exported from here; each
 // says what the function that it calls says.
+// Stays: the functions of `host` once more, since what a static library exports has to stand in it (the C interface).
 #![tactic(auto)]
 
 ghost use Rattle.std.specs.Prelude.{◌≡◌};

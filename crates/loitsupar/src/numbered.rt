@@ -5,6 +5,7 @@ ghost use Rattle.loitsupar.specs.Public.{numbered};
 use loaded::Fault;
 
 // The fault of an answer: all 0 where there is none.
+// Stays: 0 for none, as C and the lines of text are handed it (the C interface).
 pub fn numbered<A>(answer: &Result<A, Fault>) -> Fault
     ensures { result ≡ numbered answer.now }
 {

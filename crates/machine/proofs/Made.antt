@@ -7,28 +7,19 @@ use lib.ListN.{length}
 use Rattle.model.specs.Tables.{Module}
 use Rattle.loaded.specs.Holds.{Holds}
 use Rattle.loaded.specs.declared.Loaded.{Loaded}
-use Rattle.ancestor.specs.Parents.{Falls, Parents}
+use Rattle.prepare.specs.declared.Prepared.{Prepared}
 use Rattle.state.specs.View.{Work}
 use Rattle.state.specs.Work.{Tables, EndedW, run_w}
-use Rattle.state.specs.Order.{Fine, tables_of, HoldsVariables, HoldsAncestors, HoldsChosen, HoldsMade, Good, Bounded}
+use Rattle.state.specs.Order.{Fine, tables_of, HoldsMade, Good, Bounded}
 use Rattle.faithful.proofs.Runs.{run_sim}
 use Rattle.faithful.proofs.Ends.{run_final, run_bounded}
 use Rattle.between_steps.specs.Running.{lent_tables, Begins}
 use Rattle.between_steps.proofs.Going.{Going, starts}
 use Rattle.machine.specs.Ending.{Sets, Ends}
 
--- the tables, from what the functions that make them say
-pub makes : (M : Module) (code : List ℕ) (L : Loaded) (variables ancestors chosen : List ℕ) → Fine M → Holds M code L
-    → (L.counts.methods ≤ 128 → HoldsVariables L.counts.methods L.methods variables)
-    → ((ps : List ℕ) → Parents ps L.parents → L.counts.classes ≡ length ps → HoldsAncestors ps ancestors) → HoldsChosen M chosen
-    → HoldsMade M L variables ancestors chosen
-unfolding Falls
-makes M code L variables ancestors chosen fin hold v a k =
-    record {
-      by_variable = subst (λ (n : ℕ). HoldsVariables n L.methods variables) hold.method_count (v (omega (arith, hold.method_count, fin.methods_few)));
-      by_class = a M.parents (record { parent = hold.by_class.parent; falls = fin.falling; few = fin.classes_few }) hold.class_count;
-      by_root = k;
-    }
+-- the tables of a loaded module and of what was made from it
+abbrev pub tables_in : Loaded → Prepared → Tables
+tables_in L made = lent_tables L.counts L.methods L.fields L.parts L.initialisers made.variables made.ancestors made.chosen
 
 -- a run on the arrays is the model's, with work in order at its end
 pub ends : (M : Module) (code : List ℕ) (L : Loaded) (variables ancestors chosen : List ℕ) → Fine M → Holds M code L → HoldsMade M L variables ancestors chosen

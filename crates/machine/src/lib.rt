@@ -12,12 +12,14 @@ ghost use Rattle.machine.specs.Ending.{Sets, ended_by, Ends};
 use crossing::cross;
 use loaded::Loaded;
 use loaded::columns::{LENGTH, MAX_STACK, METHOD, PART};
+use prepare::prepare;
 use same_frame::same_frame;
 use state::columns::{ON, STACK};
 use state::fit::wide;
 use state::{Moved, State, Stay};
 
 // How the loop was left: what is left of the budget, and the last registers, whose `how` is the number of the ending, 1 a return from the entry.
+// Stays: `how` is a number, since a stay and a crossing hand on the same one and the loop compares it once; an enum would only be made of it and taken apart.
 #[derive(Clone, Copy)]
 pub struct Stopped {
     pub left: u64,
@@ -63,12 +65,7 @@ pub fn steps(state: &mut State, loaded: &Loaded, code: &[u8], first: Moved, budg
         Good M before → Ends M loaded.now.counts.methods budget before (ended_by loaded.now.methods budget result after)) }
 {
     let counts = loaded.counts;
-    let mut variables = [0u8; 4128];
-    prepare::variables(counts, &loaded.methods, &mut variables);
-    let mut ancestors = [0u64; 33];
-    prepare::ancestors(counts, &loaded.parents, &mut ancestors);
-    let mut chosen = [0u8; 4257];
-    prepare::choices(counts, &loaded.parents, &loaded.methods, &mut chosen);
+    let made = prepare(loaded);
     let mut last = first;
     let mut left = budget;
     last.how = ON;
@@ -88,10 +85,10 @@ pub fn steps(state: &mut State, loaded: &Loaded, code: &[u8], first: Moved, budg
             &mut state.heap,
             &mut state.statics,
             &loaded.methods,
-            &variables,
+            &made.variables,
             &loaded.fields,
             &loaded.initialisers,
-            &ancestors,
+            &made.ancestors,
             counts.classes,
             counts.fields,
         );
@@ -116,8 +113,8 @@ pub fn steps(state: &mut State, loaded: &Loaded, code: &[u8], first: Moved, budg
                 &mut state.classes,
                 &loaded.methods,
                 &loaded.initialisers,
-                &ancestors,
-                &chosen,
+                &made.ancestors,
+                &made.chosen,
                 counts.methods,
             );
             last.how = r.how;

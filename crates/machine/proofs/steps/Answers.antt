@@ -6,12 +6,12 @@ use Rattle.state.specs.Work.{Tables, due_of_byte}
 use Rattle.state.specs.Order.{tables_of}
 use Rattle.state.specs.Meets.{regs_of}
 use Rattle.state.specs.Layout.{work_of}
-use Rattle.between_steps.specs.Running.{lent_tables, lent_work}
+use Rattle.between_steps.specs.Running.{lent_work}
 use Rattle.between_steps.proofs.Order.{frame_few, row_few, part_inside}
 use Rattle.same_frame.specs.Stays.{Place}
 use Rattle.same_frame.proofs.Stepped.{moves_in, one_less}
 use Rattle.machine.specs.Ending.{ended_by}
-use Rattle.machine.proofs.Made.{makes, ends, begins_so, from_start}
+use Rattle.machine.proofs.Made.{tables_in, ends, begins_so, from_start}
 use Rattle.machine.proofs.Crossed.{ends_with, halts_with, place_of, due_is, asks, goes, stops, less_left, less_going}
 use Rattle.machine.proofs.steps.Goals as goal
 use Rattle.one_step.specs.Told.{Lends}
@@ -32,22 +32,11 @@ lent = record {
 crossing_lent : {P : Tables} → CrossingLends P P.method_count P.methods P.initialisers P.ancestors P.chosen
 crossing_lent = record { same_count = refl; same_methods = refl; same_initialisers = refl; same_ancestors = refl; same_chosen = refl }
 
-pub variables-requires : goal.variables-requires
-variables-requires c = refl
-
-pub ancestors-requires : goal.ancestors-requires
-ancestors-requires c = refl
-
-pub choices-requires : goal.choices-requires
-choices-requires c = refl
-
 pub loop-last-init : goal.loop-last-init
 loop-last-init c =
     let A = c.args in
     let S = c.requires in
-    let L = A.loaded.now in
-    let made = makes S.module_is A.code.now L _ _ _ S.fine S.holds c.variables.ensures c.ancestors.ensures (c.choices.ensures S.module_is A.code.now L S.fine S.holds refl refl refl) in
-    (omega arith, (λ _. from_start (begins_so c.variables.new.variables c.ancestors.new.sets c.choices.new.chosen S made), λ n. absurd (n refl)))
+    (omega arith, (λ _. from_start (begins_so _ _ _ S (c.prepare-made.ensures S.module_is A.code.now S.fine S.holds)), λ n. absurd (n refl)))
 
 pub stay-y-requires : goal.stay-y-requires
 stay-y-requires c =
@@ -60,7 +49,7 @@ body-part-requires c =
 pub same_frame-s-requires : goal.same_frame-s-requires
 same_frame-s-requires c =
     let A = c.args in
-    let P = lent_tables A.loaded.now.counts A.loaded.now.methods A.loaded.now.fields A.loaded.now.parts A.loaded.now.initialisers c.variables.new.variables c.ancestors.new.sets c.choices.new.chosen in
+    let P = tables_in A.loaded.now c.prepare-made.result in
     let l = c.loop-last in
     let g : Regs = regs_of l.last in
     let p : Place A.code.now P c.stay-y.result c.body-part.result.now g = place_of g c.stay-y.ensures c.body-part.ensures in
@@ -82,7 +71,7 @@ ends_late how h e = absurd (omega arith)
 pub loop-last-smaller-then-s-eq0 : goal.loop-last-smaller-then-s-eq0
 loop-last-smaller-then-s-eq0 c =
     let A = c.args in
-    let P = lent_tables A.loaded.now.counts A.loaded.now.methods A.loaded.now.fields A.loaded.now.parts A.loaded.now.initialisers c.variables.new.variables c.ancestors.new.sets c.choices.new.chosen in
+    let P = tables_in A.loaded.now c.prepare-made.result in
     let l = c.loop-last in
     let g : Regs = regs_of l.last in
     let p : Place A.code.now P c.stay-y.result c.body-part.result.now g = place_of g c.stay-y.ensures c.body-part.ensures in
@@ -93,7 +82,7 @@ loop-last-smaller-then-s-eq0 c =
 pub loop-last-preserved-then-s-eq0 : goal.loop-last-preserved-then-s-eq0
 loop-last-preserved-then-s-eq0 c =
     let A = c.args in
-    let P = lent_tables A.loaded.now.counts A.loaded.now.methods A.loaded.now.fields A.loaded.now.parts A.loaded.now.initialisers c.variables.new.variables c.ancestors.new.sets c.choices.new.chosen in
+    let P = tables_in A.loaded.now c.prepare-made.result in
     let l = c.loop-last in
     let g : Regs = regs_of l.last in
     let p : Place A.code.now P c.stay-y.result c.body-part.result.now g = place_of g c.stay-y.ensures c.body-part.ensures in
@@ -106,7 +95,7 @@ loop-last-preserved-then-s-eq0 c =
 pub cross-r-requires : goal.cross-r-requires
 cross-r-requires c =
     let A = c.args in
-    let P = lent_tables A.loaded.now.counts A.loaded.now.methods A.loaded.now.fields A.loaded.now.parts A.loaded.now.initialisers c.variables.new.variables c.ancestors.new.sets c.choices.new.chosen in
+    let P = tables_in A.loaded.now c.prepare-made.result in
     let l = c.loop-last in
     let g : Regs = regs_of l.last in
     let p : Place A.code.now P c.stay-y.result c.body-part.result.now g = place_of g c.stay-y.ensures c.body-part.ensures in
@@ -123,7 +112,7 @@ cross-r-requires c =
 pub overflow_sub-left : goal.overflow_sub-left
 overflow_sub-left c =
     let A = c.args in
-    let P = lent_tables A.loaded.now.counts A.loaded.now.methods A.loaded.now.fields A.loaded.now.parts A.loaded.now.initialisers c.variables.new.variables c.ancestors.new.sets c.choices.new.chosen in
+    let P = tables_in A.loaded.now c.prepare-made.result in
     let l = c.loop-last in
     let g : Regs = regs_of l.last in
     let p : Place A.code.now P c.stay-y.result c.body-part.result.now g = place_of g c.stay-y.ensures c.body-part.ensures in
@@ -134,7 +123,7 @@ overflow_sub-left c =
 pub loop-last-smaller-then-r-eq-ON : goal.loop-last-smaller-then-r-eq-ON
 loop-last-smaller-then-r-eq-ON c =
     let A = c.args in
-    let P = lent_tables A.loaded.now.counts A.loaded.now.methods A.loaded.now.fields A.loaded.now.parts A.loaded.now.initialisers c.variables.new.variables c.ancestors.new.sets c.choices.new.chosen in
+    let P = tables_in A.loaded.now c.prepare-made.result in
     let l = c.loop-last in
     let g : Regs = regs_of l.last in
     let p : Place A.code.now P c.stay-y.result c.body-part.result.now g = place_of g c.stay-y.ensures c.body-part.ensures in
@@ -148,7 +137,7 @@ loop-last-smaller-then-r-eq-ON c =
 pub loop-last-preserved-then-r-eq-ON : goal.loop-last-preserved-then-r-eq-ON
 loop-last-preserved-then-r-eq-ON c =
     let A = c.args in
-    let P = lent_tables A.loaded.now.counts A.loaded.now.methods A.loaded.now.fields A.loaded.now.parts A.loaded.now.initialisers c.variables.new.variables c.ancestors.new.sets c.choices.new.chosen in
+    let P = tables_in A.loaded.now c.prepare-made.result in
     let l = c.loop-last in
     let g : Regs = regs_of l.last in
     let p : Place A.code.now P c.stay-y.result c.body-part.result.now g = place_of g c.stay-y.ensures c.body-part.ensures in
@@ -170,7 +159,7 @@ loop-last-preserved-then-r-eq-ON c =
 pub loop-last-smaller : goal.loop-last-smaller
 loop-last-smaller c =
     let A = c.args in
-    let P = lent_tables A.loaded.now.counts A.loaded.now.methods A.loaded.now.fields A.loaded.now.parts A.loaded.now.initialisers c.variables.new.variables c.ancestors.new.sets c.choices.new.chosen in
+    let P = tables_in A.loaded.now c.prepare-made.result in
     let l = c.loop-last in
     let g : Regs = regs_of l.last in
     let p : Place A.code.now P c.stay-y.result c.body-part.result.now g = place_of g c.stay-y.ensures c.body-part.ensures in
@@ -181,7 +170,7 @@ loop-last-smaller c =
 pub loop-last-preserved : goal.loop-last-preserved
 loop-last-preserved c =
     let A = c.args in
-    let P = lent_tables A.loaded.now.counts A.loaded.now.methods A.loaded.now.fields A.loaded.now.parts A.loaded.now.initialisers c.variables.new.variables c.ancestors.new.sets c.choices.new.chosen in
+    let P = tables_in A.loaded.now c.prepare-made.result in
     let l = c.loop-last in
     let g : Regs = regs_of l.last in
     let p : Place A.code.now P c.stay-y.result c.body-part.result.now g = place_of g c.stay-y.ensures c.body-part.ensures in
@@ -207,12 +196,8 @@ pub returns : goal.returns
 unfolding tables_of ended_by ends_with
 returns c =
     let A = c.args in
-    let L = A.loaded.now in
     let x = c.loop-last.invariant.1.1 c.loop-last-test.false in
     record {
       result_range = (c.loop-last.invariant.0, x.1);
-      ends = λ M fin hold good.
-          ends M A.code.now L c.variables.new.variables c.ancestors.new.sets c.choices.new.chosen fin hold
-          (makes M A.code.now L _ _ _ fin hold c.variables.ensures c.ancestors.ensures (c.choices.ensures M A.code.now L fin hold refl refl refl))
-          A.budget _ good c.requires.bounded _ x.0;
+      ends = λ M fin hold good. ends M A.code.now A.loaded.now _ _ _ fin hold (c.prepare-made.ensures M A.code.now fin hold) A.budget _ good c.requires.bounded _ x.0;
     }

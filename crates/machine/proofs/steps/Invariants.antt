@@ -6,15 +6,15 @@ use Rattle.loaded.specs.Holds.{method_cell}
 use Rattle.state.specs.Work.{value_due, due_of_byte, run_w}
 use Rattle.state.specs.Meets.{regs_of}
 use Rattle.state.specs.Layout.{work_of}
-use Rattle.between_steps.specs.Running.{lent_tables}
 use Rattle.between_steps.proofs.Going.{Going}
+use Rattle.machine.proofs.Made.{tables_in}
 use Rattle.machine.proofs.Crossed.{ends_with}
 use Rattle.machine.proofs.steps.Given as goal
 
 abbrev pub invariant-loop-last : goal.invariant-loop-last
 invariant-loop-last l =
     let L = l.loaded in
-    let P = lent_tables L.counts L.methods L.fields L.parts L.initialisers l.variables l.ancestors l.chosen in
+    let P = tables_in L l.made in
     let whole = run_w P l.code l.budget 0 (work_of (regs_of l.initial.last) l.initial.state) in
     let c = work_of (regs_of l.last) l.state in
     (l.left ≤ l.budget) × ((l.last.how ≡ 0 → Going l.code P l.budget whole (l.budget - l.left) c)

@@ -12,7 +12,4 @@ bounds-out-4 c =
 
 pub returns : goal.returns
 unfolding told_cells fault_cells
-returns c =
-    let laid = c in
-    let start = laid in
-    rw (laid.lay_fault.ensures, c.sort_of.ensures, c.bits_of.ensures) (six_laid start.args.out.now _ _ _ _ _ _ start.requires)
+returns c = rw (c.lay_fault.ensures, c.sort_and_bits-sort.ensures) (six_laid c.args.out.now _ _ _ _ _ _ c.requires)
