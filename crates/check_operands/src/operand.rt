@@ -2,7 +2,7 @@
 ghost use Rattle.std.specs.Prelude.{◌≡◌, List, ℕ, ◌+◌, ◌*◌, ◌≤◌, ◌<◌, length, eqb, IfSome};
 ghost use Rattle.std.proofs.Math.Option.{none, some};
 ghost use Rattle.model.specs.Answer.{at, is_none, only_if};
-ghost use Rattle.model.specs.Tables.{Ty, Sort, sort_byte, Method, Module};
+ghost use Rattle.model.specs.Tables.{Ty, Sort, sort_byte, Method, Module, arguments};
 ghost use Rattle.model.specs.Code.{row_of, operands, and_then};
 ghost use Rattle.code.specs.Operand.{maybe};
 ghost use Rattle.loaded.specs.Holds.{method_cell, field_cell};
@@ -13,7 +13,7 @@ ghost use Rattle.check_operands.specs.Held.{Typed, Own, row_among};
 use code::operand::row_of;
 use loaded::columns::{ARGUMENT_COUNT, FIELD, LOCAL_COUNT, LOCALS, METHOD, SORT, STATIC};
 
-pub const MOST_LOCALS: usize = 16;
+const MOST_LOCALS: usize = 16;
 
 // Whether a field is static, as its row says.
 pub const INSTANCE: u8 = 0;
@@ -50,7 +50,7 @@ const FIELDS: usize = 128;
 const METHODS: usize = 128;
 
 // The type of an argument or local of a method, if it has one of that number.
-pub fn declared(
+fn declared(
     methods: &[u8; 4128],
     row: usize,
     column: usize,
@@ -71,6 +71,21 @@ pub fn declared(
     Some(methods[start + from + i])
 }
 
+// The type of an argument of the method that is checked, and of a local.
+pub fn argument(methods: &[u8; 4128], row: usize, i: usize) -> Option<u8>
+    requires row_below { row < 129 }
+    ensures { (m : Method) (max due : ℕ) → Own m row max due methods.now → Typed result (at (arguments m) i) }
+{
+    declared(methods, row, ARGUMENT_COUNT, 0, LOCALS, i)
+}
+
+pub fn local(methods: &[u8; 4128], row: usize, i: usize) -> Option<u8>
+    requires row_below { row < 129 }
+    ensures { (m : Method) (max due : ℕ) → Own m row max due methods.now → Typed result (at m.locals i) }
+{
+    declared(methods, row, LOCAL_COUNT, LOCALS, MOST_LOCALS, i)
+}
+
 // Whether an instruction is on an argument or local that the method does not have.
 pub fn undeclared(methods: &[u8; 4128], row: usize, g: u8, op: usize, n: usize) -> bool
     requires row_below { row < 129 }
@@ -78,13 +93,13 @@ pub fn undeclared(methods: &[u8; 4128], row: usize, g: u8, op: usize, n: usize) 
     ensures { (M : Module) (m : Method) (max due : ℕ) → Own m row max due methods.now → result ≡ is_none (operands M m (plain_by g op n)) }
 {
     match g {
-        8 => declared(methods, row, ARGUMENT_COUNT, 0, LOCALS, (op + 2) % 4).is_none(),
-        9 => declared(methods, row, ARGUMENT_COUNT, 0, LOCALS, n).is_none(),
-        10 => declared(methods, row, ARGUMENT_COUNT, 0, LOCALS, n).is_none(),
-        11 => declared(methods, row, LOCAL_COUNT, LOCALS, MOST_LOCALS, (op + 2) % 4).is_none(),
-        12 => declared(methods, row, LOCAL_COUNT, LOCALS, MOST_LOCALS, (op + 2) % 4).is_none(),
-        13 => declared(methods, row, LOCAL_COUNT, LOCALS, MOST_LOCALS, n).is_none(),
-        14 => declared(methods, row, LOCAL_COUNT, LOCALS, MOST_LOCALS, n).is_none(),
+        8 => argument(methods, row, (op + 2) % 4).is_none(),
+        9 => argument(methods, row, n).is_none(),
+        10 => argument(methods, row, n).is_none(),
+        11 => local(methods, row, (op + 2) % 4).is_none(),
+        12 => local(methods, row, (op + 2) % 4).is_none(),
+        13 => local(methods, row, n).is_none(),
+        14 => local(methods, row, n).is_none(),
         _ => false,
     }
 }

@@ -11,12 +11,10 @@ ghost use Rattle.check_operands.specs.Held.{Typed, HeldClasses, HeldFields, Held
 
 use super::group::{CALL, CASTS, LDFLD, LDSFLD};
 use super::operand::{
-    INSTANCE, MOST_LOCALS, NEW, ONE_FOR_ALL, class_row, declared, field_row, method_row,
+    INSTANCE, NEW, ONE_FOR_ALL, argument, class_row, field_row, local, method_row,
 };
 use loaded::Counts;
-use loaded::columns::{
-    ARGUMENT_COUNT, FIELD, FIELD_OWNER, LOCAL_COUNT, LOCALS, METHOD, OWNER, RETURN, TYPE,
-};
+use loaded::columns::{ARGUMENT_COUNT, FIELD, FIELD_OWNER, LOCALS, METHOD, OWNER, RETURN, TYPE};
 use shapes::fault::FaultKind;
 use shapes::fit::class_byte;
 use shapes::kind::{Pair, Unary};
@@ -79,48 +77,13 @@ pub fn plain(
         5 => pool.push(s, INT32, max),
         6 => pool.push(s, INT64, max),
         7 => pool.push(s, F, max),
-        8 => load(
-            pool,
-            s,
-            declared(methods, row, ARGUMENT_COUNT, 0, LOCALS, (op + 2) % 4),
-            max,
-        ),
-        9 => load(
-            pool,
-            s,
-            declared(methods, row, ARGUMENT_COUNT, 0, LOCALS, n),
-            max,
-        ),
-        10 => keep(
-            pool,
-            parents,
-            s,
-            declared(methods, row, ARGUMENT_COUNT, 0, LOCALS, n),
-        ),
-        11 => load(
-            pool,
-            s,
-            declared(methods, row, LOCAL_COUNT, LOCALS, MOST_LOCALS, (op + 2) % 4),
-            max,
-        ),
-        12 => keep(
-            pool,
-            parents,
-            s,
-            declared(methods, row, LOCAL_COUNT, LOCALS, MOST_LOCALS, (op + 2) % 4),
-        ),
-        13 => load(
-            pool,
-            s,
-            declared(methods, row, LOCAL_COUNT, LOCALS, MOST_LOCALS, n),
-            max,
-        ),
-        14 => keep(
-            pool,
-            parents,
-            s,
-            declared(methods, row, LOCAL_COUNT, LOCALS, MOST_LOCALS, n),
-        ),
+        8 => load(pool, s, argument(methods, row, (op + 2) % 4), max),
+        9 => load(pool, s, argument(methods, row, n), max),
+        10 => keep(pool, parents, s, argument(methods, row, n)),
+        11 => load(pool, s, local(methods, row, (op + 2) % 4), max),
+        12 => keep(pool, parents, s, local(methods, row, (op + 2) % 4)),
+        13 => load(pool, s, local(methods, row, n), max),
+        14 => keep(pool, parents, s, local(methods, row, n)),
         15 => pool.binary(s, Pair::Numbers),
         16 => pool.binary(s, Pair::Integers),
         17 => pool.binary(s, Pair::Shift),

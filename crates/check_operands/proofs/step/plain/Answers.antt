@@ -7,7 +7,7 @@ use Rattle.shapes.specs.Effects.{binary_effect, compare_effect}
 use Rattle.shapes.specs.Pool.{Takes}
 use Rattle.model.specs.Check.{effect, plain_effect, pushes, pops_one}
 use Rattle.model.specs.Code.{operands, Act, nop, binary, number, add, whole, rem, shift, shl, compare, eq, lt}
-use Rattle.model.specs.Tables.{int32, int64, F, null, byte_of, arguments}
+use Rattle.model.specs.Tables.{int32, int64, F, null, byte_of}
 use Rattle.model.specs.Answer.{pick}
 use borrow.Author.Tests.{ne_eqb}
 use mathlib.Core.Path.{refl}
@@ -47,72 +47,72 @@ returns-in-7 c = record { small = c.push-in-7.ensures.small; operand = λ M m p 
 
 pub returns-in-8 : goal.returns-in-8
 unfolding plain_by pick operands Takes effect plain_effect in_opcode byte_of
-returns-in-8 c = let the-declared = c.declared in
+returns-in-8 c = let the-declared = c.argument in
     record {
       small = c.load.ensures.small;
       operand = λ M m p own f S w. grouped _ _ _ M m S _ _ _ 8 c.in-8.is
           (mapped _ _ _ (λ u. pushes m u S) (λ a. effect M m a S) (Act.ldarg (in_opcode c.args.op)) _ (λ a. refl)
-          (c.load.ensures.operand m _ own.most (the-declared.ensures (arguments m) own.arity own.small own.arguments_at) f S w));
+          (c.load.ensures.operand m _ own.most (the-declared.ensures m _ _ own) f S w));
     }
 
 pub returns-in-9 : goal.returns-in-9
 unfolding plain_by pick operands Takes effect plain_effect in_opcode byte_of
-returns-in-9 c = let the-declared2 = c.declared-in-9 in
+returns-in-9 c = let the-declared2 = c.argument-in-9 in
     record {
       small = c.load-in-9.ensures.small;
       operand = λ M m p own f S w. grouped _ _ _ M m S _ _ _ 9 c.in-9.is
           (mapped _ _ _ (λ u. pushes m u S) (λ a. effect M m a S) (Act.ldarg c.args.n) _ (λ a. refl)
-          (c.load-in-9.ensures.operand m _ own.most (the-declared2.ensures (arguments m) own.arity own.small own.arguments_at) f S w));
+          (c.load-in-9.ensures.operand m _ own.most (the-declared2.ensures m _ _ own) f S w));
     }
 
 pub returns-in-10 : goal.returns-in-10
 unfolding plain_by pick operands Takes effect plain_effect in_opcode byte_of
-returns-in-10 c = let the-declared3 = c.declared-in-10 in
+returns-in-10 c = let the-declared3 = c.argument-in-10 in
     record {
       small = c.keep.ensures.small;
       operand = λ M m p own f S w. grouped _ _ _ M m S _ _ _ 10 c.in-10.is
           (mapped _ _ _ (λ u. pops_one M u S) (λ a. effect M m a S) (Act.starg c.args.n) _ (λ a. refl)
-          (c.keep.ensures.operand M _ p (the-declared3.ensures (arguments m) own.arity own.small own.arguments_at) f S w));
+          (c.keep.ensures.operand M _ p (the-declared3.ensures m _ _ own) f S w));
     }
 
 pub returns-in-11 : goal.returns-in-11
 unfolding plain_by pick operands Takes effect plain_effect in_opcode byte_of
-returns-in-11 c = let the-declared4 = c.declared-in-11 in
+returns-in-11 c = let the-declared4 = c.local in
     record {
       small = c.load-in-11.ensures.small;
       operand = λ M m p own f S w. grouped _ _ _ M m S _ _ _ 11 c.in-11.is
           (mapped _ _ _ (λ u. pushes m u S) (λ a. effect M m a S) (Act.ldloc (in_opcode c.args.op)) _ (λ a. refl)
-          (c.load-in-11.ensures.operand m _ own.most (the-declared4.ensures m.locals own.local_count_lem own.local_small own.locals_at) f S w));
+          (c.load-in-11.ensures.operand m _ own.most (the-declared4.ensures m _ _ own) f S w));
     }
 
 pub returns-in-12 : goal.returns-in-12
 unfolding plain_by pick operands Takes effect plain_effect in_opcode byte_of
-returns-in-12 c = let the-declared5 = c.declared-in-12 in
+returns-in-12 c = let the-declared5 = c.local-in-12 in
     record {
       small = c.keep-in-12.ensures.small;
       operand = λ M m p own f S w. grouped _ _ _ M m S _ _ _ 12 c.in-12.is
           (mapped _ _ _ (λ u. pops_one M u S) (λ a. effect M m a S) (Act.stloc (in_opcode c.args.op)) _ (λ a. refl)
-          (c.keep-in-12.ensures.operand M _ p (the-declared5.ensures m.locals own.local_count_lem own.local_small own.locals_at) f S w));
+          (c.keep-in-12.ensures.operand M _ p (the-declared5.ensures m _ _ own) f S w));
     }
 
 pub returns-in-13 : goal.returns-in-13
 unfolding plain_by pick operands Takes effect plain_effect in_opcode byte_of
-returns-in-13 c = let the-declared6 = c.declared-in-13 in
+returns-in-13 c = let the-declared6 = c.local-in-13 in
     record {
       small = c.load-in-13.ensures.small;
       operand = λ M m p own f S w. grouped _ _ _ M m S _ _ _ 13 c.in-13.is
           (mapped _ _ _ (λ u. pushes m u S) (λ a. effect M m a S) (Act.ldloc c.args.n) _ (λ a. refl)
-          (c.load-in-13.ensures.operand m _ own.most (the-declared6.ensures m.locals own.local_count_lem own.local_small own.locals_at) f S w));
+          (c.load-in-13.ensures.operand m _ own.most (the-declared6.ensures m _ _ own) f S w));
     }
 
 pub returns-in-14 : goal.returns-in-14
 unfolding plain_by pick operands Takes effect plain_effect in_opcode byte_of
-returns-in-14 c = let the-declared7 = c.declared-in-14 in
+returns-in-14 c = let the-declared7 = c.local-in-14 in
     record {
       small = c.keep-in-14.ensures.small;
       operand = λ M m p own f S w. grouped _ _ _ M m S _ _ _ 14 c.in-14.is
           (mapped _ _ _ (λ u. pops_one M u S) (λ a. effect M m a S) (Act.stloc c.args.n) _ (λ a. refl)
-          (c.keep-in-14.ensures.operand M _ p (the-declared7.ensures m.locals own.local_count_lem own.local_small own.locals_at) f S w));
+          (c.keep-in-14.ensures.operand M _ p (the-declared7.ensures m _ _ own) f S w));
     }
 
 pub returns-in-15 : goal.returns-in-15
