@@ -1,9 +1,11 @@
 // The check of a method: decoding, then operands and shapes by rising offset.
 ghost use Rattle.std.specs.Prelude.{◌≡◌, List, ℕ, ◌≤◌, ◌<◌, length, get_or, Ok};
+ghost use Rattle.std.proofs.Math.Option.{some};
 ghost use Rattle.model.specs.Answer.{ok};
 ghost use Rattle.model.specs.Tables.{Method, Module};
-ghost use Rattle.model.specs.Code.{Ins};
+ghost use Rattle.model.specs.Code.{Ins, decode};
 ghost use Rattle.model.specs.Check.{Site, decode_from, find_operands, check_method};
+ghost use Rattle.code.specs.Insn.{ins_of};
 ghost use Rattle.code.specs.Lengths.{Lengths};
 ghost use Rattle.shapes.specs.Pool.{pool, Fine};
 ghost use Rattle.check_operands.specs.Held.{Held};
@@ -13,6 +15,7 @@ ghost use Rattle.visits.specs.Notes.{Ready};
 ghost use Rattle.passes.specs.Fused.{onward, Tells, Late, Cleared, Scanned, Rest, Reading, Passing, nothing};
 
 use code::decode::{known, size_at};
+use code::insn::Insn;
 use loaded::{Fault, Loaded};
 use shapes::fault::FaultKind;
 use shapes::shape::FIRST;
@@ -80,6 +83,18 @@ fn scan(lengths: &[u8; 256], code: &[u8], starts: &mut [u8; 1024]) -> Result<(),
     Ok(())
 }
 
+// The instruction at an offset, by the length that is kept there.
+fn read_at(code: &[u8], starts: &[u8; 1024], at: usize) -> Insn
+    requires at_inside { at < length code.now }
+    requires length_at_most { length code.now ≤ 1024 }
+    requires reading { Reading code.now starts.now at }
+    ensures decode_is { decode code.now at ≡ some (record { ins = ins_of result; next = result.next }) }
+    ensures onward { at < result.next }
+    ensures reading { Reading code.now starts.now result.next }
+{
+    known(code, at, wide(starts[at]))
+}
+
 // An operand fault at or after an offset comes before a shape's fault.
 fn late(
     loaded: &Loaded,
@@ -100,17 +115,8 @@ fn late(
     let mut at = from;
     // Stays: a step is as long as its instruction, which no range says.
     while at < code.len() {
-        let i = known(code, at, starts[at] as usize);
-        if refused(
-            &tables.groups,
-            loaded.counts,
-            &loaded.fields,
-            &loaded.methods,
-            starts,
-            row,
-            code.len(),
-            i,
-        ) {
+        let i = read_at(code, starts, at);
+        if refused(loaded, tables, row, starts, code.len(), i) {
             return FaultAt {
                 kind: FaultKind::Operand,
                 offset: at,
@@ -146,7 +152,7 @@ fn pass(
     let mut at = 0;
     // Stays: a step is as long as its instruction, which no range says.
     while at < size {
-        let i = known(code, at, notes.starts[at] as usize);
+        let i = read_at(code, &notes.starts, at);
         if let Err(kind) = visit(loaded, tables, body, notes, at, i) {
             let fault = FaultAt { kind, offset: at };
             match kind {

@@ -6,7 +6,6 @@ ghost use Rattle.model.specs.Code.{Ins};
 ghost use Rattle.model.specs.Check.{Shapes, Site};
 ghost use Rattle.code.specs.Insn.{ins_of};
 ghost use Rattle.shapes.specs.Pool.{pool, Fine};
-ghost use Rattle.check_operands.specs.Groups.{groups as group_table};
 ghost use Rattle.check_operands.specs.Held.{Held};
 ghost use Rattle.visits.specs.Found.{Starts, Kept};
 ghost use Rattle.visits.specs.Visits.{act_of, Visits};
@@ -20,9 +19,8 @@ use check_operands::operand::{
 };
 use check_operands::step::{plain, step};
 use code::insn::Insn;
+use loaded::Loaded;
 use loaded::columns::{METHOD, RETURN};
-use loaded::{Counts, Loaded};
-use shapes::fault::FaultKind;
 
 // One instruction.
 pub fn visit(
@@ -89,37 +87,36 @@ pub fn visit(
 
 // Whether an instruction has an operand fault, or a target that starts no instruction.
 pub fn refused(
-    groups: &[u8; 256],
-    counts: Counts,
-    fields: &[u8; 516],
-    methods: &[u8; 4128],
-    starts: &[u8; 1024],
+    loaded: &Loaded,
+    tables: &Tables,
     row: usize,
+    starts: &[u8; 1024],
     size: usize,
     i: Insn,
 ) -> bool
     requires row_below { row < 129 }
     requires size_at_most { size ≤ 1024 }
-    ensures { (M : Module) (m : Method) (all : List (Site Ins)) (max : ℕ) (parents : List ℕ) → groups.now ≡ group_table →
-        Held M m counts row max parents fields.now methods.now → length m.code ≡ size →
+    ensures { (M : Module) (m : Method) (all : List (Site Ins)) (max : ℕ) →
+        Held M m loaded.now.counts row max loaded.now.parents loaded.now.fields loaded.now.methods → length m.code ≡ size →
         Starts all size starts.now → result ≡ is_none (act_of M m all (ins_of i)) }
 {
-    let g = group(groups, i.op);
+    let g = group(&tables.groups, i.op);
     let op = i.op as usize;
+    let n = i.operand;
     if BR <= g {
-        return lands(starts, size, op, i.next, i.operand).is_none();
+        return lands(starts, size, op, i.next, n).is_none();
     }
     if g < CALL {
-        return undeclared(methods, row, g, op, i.operand as usize);
+        return undeclared(&loaded.methods, row, g, op, n as usize);
     }
     if g < CASTS {
-        return method_row(counts.methods, methods, i.operand, g - CALL).is_none();
+        return method_row(loaded.counts.methods, &loaded.methods, n, g - CALL) == 0;
     }
     if g == CASTS {
-        return class_row(counts.classes, i.operand).is_none();
+        return class_row(loaded.counts.classes, n) == 0;
     }
     if g < LDSFLD {
-        return field_row(counts.fields, fields, i.operand, INSTANCE).is_none();
+        return field_row(loaded.counts.fields, &loaded.fields, n, INSTANCE) == 0;
     }
-    field_row(counts.fields, fields, i.operand, ONE_FOR_ALL).is_none()
+    field_row(loaded.counts.fields, &loaded.fields, n, ONE_FOR_ALL) == 0
 }

@@ -9,25 +9,10 @@ pub loop-at-init : goal.loop-at-init
 loop-at-init c =
     scanning_start _ _ c.requires.starts_len c.requires.as_model
 
-pub size_at-size-requires : goal.size_at-size-requires
-size_at-size-requires c = record { lengths = c.requires.lengths; at_inside = c.loop-at-test.true; length_at_most = c.requires.length_at_most }
-
 pub returns-then-size-eq0 : goal.returns-then-size-eq0
 returns-then-size-eq0 c =
     scanning_stop _ _ _ c.loop-at.invariant c.loop-at-test.true
     (no_size c.args.code.now c.loop-at.at (omega (arith, c.type_inv.code c.loop-at.at)) (sym c.size_at-size.ensures.result_is ∙ c.if-size-eq0.true))
-
-pub overflow_cast-starts : goal.overflow_cast-starts
-overflow_cast-starts c =
-    omega (arith, c.size_at-size.ensures.result_at_most)
-
-pub bounds-starts-at : goal.bounds-starts-at
-bounds-starts-at c =
-    omega (arith, c.requires.length_at_most)
-
-pub overflow_add-at : goal.overflow_add-at
-overflow_add-at c =
-    omega (arith, c.size_at-size.ensures.at_inside, c.requires.length_at_most)
 
 pub loop-at-preserved : goal.loop-at-preserved
 loop-at-preserved c =
