@@ -3,9 +3,9 @@ ghost use Rattle.std.specs.Prelude.{◌≡◌, ℕ, ◌+◌, ◌-◌, ◌*◌, �
 ghost use Rattle.state.specs.View.{depth_of, method_of};
 ghost use Rattle.state.specs.Order.{Saved};
 ghost use Rattle.state.specs.Meets.{Placed, regs_of};
-ghost use Rattle.state.specs.Layout.{tidy_bits, tidy_byte, tidy_cell, tidy_kind, tidy_cells, tidy_kinds, tidy_statics, tidy_heap, save, tidy, work_of};
+ghost use Rattle.state.specs.Layout.{tidy_bits, tidy_byte, tidy_cell, tidy_kind, tidy_cells, tidy_kinds, tidy_heap, save, tidy, work_of};
 ghost use Rattle.across_frames.specs.Lent.{Framed};
-ghost use Rattle.begin_end.specs.Ending.{saved_cells, Waiting, Blank, Changed};
+ghost use Rattle.begin_end.specs.Ending.{Waiting, Blank, Changed};
 
 use across_frames::enter::ROW;
 use integers::conv_i8;

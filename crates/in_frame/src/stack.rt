@@ -1,5 +1,5 @@
 // The stack of the running frame, and the constants with an operand.
-ghost use Rattle.std.specs.Prelude.{◌≡◌, ◌<◌, ◌≤◌, true, length, slice_index};
+ghost use Rattle.std.specs.Prelude.{◌≡◌, ◌<◌, ◌≤◌, length, slice_index};
 ghost use Rattle.state.specs.View.{Work};
 ghost use Rattle.state.specs.Work.{Tables, with_regs, moved_to, push_w, pop_w, dup_w, acts_w};
 ghost use Rattle.state.specs.Meets.{Stays, Topped, on_stack};

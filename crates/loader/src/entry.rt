@@ -1,9 +1,6 @@
 // The entry record, and what the entry may be.
-ghost use Rattle.std.specs.Prelude.{◌≡◌, List, ℕ, ◌+◌, ◌≤◌, ◌<◌, length, get_or, ◌↔◌, IsTrue, EachIndex, slice_index};
-ghost use Rattle.model.specs.Answer.{at as element_at};
-ghost use Rattle.model.specs.Tables.{Ty};
-ghost use Rattle.model.specs.Loading.{Loading as LoadingOf, is_integer, all, entry_record};
-ghost use Rattle.loaded.specs.Holds.{byte_at};
+ghost use Rattle.std.specs.Prelude.{◌≡◌, List, ℕ, ◌+◌, ◌≤◌, ◌<◌, length, ◌↔◌, IsTrue, EachIndex, slice_index};
+ghost use Rattle.model.specs.Loading.{Loading as LoadingOf, all, entry_record};
 ghost use Rattle.loader.specs.Rules.{EntryRule};
 ghost use Rattle.loader.specs.Stands.{MethodCells, Sound, Stands, Leads, Fine};
 ghost use Rattle.loader.specs.Kinds.{last_byte};

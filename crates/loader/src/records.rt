@@ -1,5 +1,5 @@
 // Record by record: each kind to its own rules.
-ghost use Rattle.std.specs.Prelude.{◌≡◌, List, ℕ, ◌+◌, ◌<◌, length, get_or, drop, IfOk, ⊤};
+ghost use Rattle.std.specs.Prelude.{◌≡◌, List, ℕ, ◌+◌, ◌<◌, length, drop, IfOk, ⊤};
 ghost use Rattle.model.specs.Answer.{or_else};
 ghost use Rattle.model.specs.Loading.{Loading as LoadingOf, nothing as nothing_of, body_bytes, one_record, read_record, records as records_of};
 ghost use Rattle.loaded.specs.Holds.{nothing as nothing_loaded};

@@ -1,7 +1,6 @@
 // One step that stays in its frame, by its opcode; an opcode that changes the frame is named.
 #![tactic(auto)]
 
-ghost use Rattle.std.specs.Prelude.{◌≡◌};
 ghost use Rattle.state.specs.View.{Work};
 ghost use Rattle.state.specs.Work.{Tables};
 ghost use Rattle.state.specs.Meets.{Stays, Topped, Few, Placed};

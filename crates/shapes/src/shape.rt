@@ -1,6 +1,6 @@
 // Shapes by number: 0 is none, 1 the empty one, any other a type on top of an earlier shape.
 
-ghost use Rattle.std.specs.Prelude.{◌≡◌, ℕ, ◌%◌, ◌<◌, get_or};
+ghost use Rattle.std.specs.Prelude.{◌≡◌, ◌%◌, ◌<◌, get_or};
 ghost use Rattle.model.specs.Tables.{eq_tys};
 ghost use Rattle.model.specs.Check.{Shape};
 ghost use Rattle.shapes.specs.Pool.{Fine, Shows, grown};

@@ -1,7 +1,7 @@
 // One cell as text, and the cells of a row. A reading at an index that is not there gives 0, so no function of this crate has a `requires`.
-ghost use Rattle.std.specs.Prelude.{◌≡◌, ◌*◌, ◌++◌, take, drop, get_or};
+ghost use Rattle.std.specs.Prelude.{◌≡◌, ◌*◌, take, drop, get_or};
 ghost use Rattle.model.specs.Replay.{cell_text, cell_texts};
-ghost use Rattle.state.specs.View.{refer_to, span, value_by};
+ghost use Rattle.state.specs.View.{refer_to, span};
 ghost use Rattle.line.specs.Append.{appended};
 ghost use Rattle.state_text.specs.Texts.{value_in, comma as comma_text};
 
