@@ -15,34 +15,38 @@ use Rattle.state.specs.declared.Stay.{Stay}
 use Rattle.state.specs.View.{Regs, Work}
 use Rattle.state.specs.Work.{Went, runs, over, waits, with_regs, with_cells, with_marks, copy_of, fours, entered, room_above, start_w, starting_w}
 use Rattle.state.specs.Meets.{answer, moves, Leaves}
-use Rattle.across_frames.specs.declared.ending.Ending.{Ending}
-use Rattle.across_frames.specs.declared.ending.Ending.TheVariants.{NoObject, FramesUsed, ObjectsUsed, Cut, NoSuch, TooFew, NoRoom, Unfit}
+use Rattle.state.specs.Steps.{number}
+use Rattle.state.specs.declared.ending.Ending.{Ending}
+use Rattle.state.specs.declared.ending.Ending.TheVariants.{NullReference, InvalidCast, UsedFrames, UsedObjects, UsedBudget, Undecodable, BadOperand, TooFew, TooMany, WrongType, PastEnd}
 use Rattle.across_frames.specs.declared.registers.Registers.{Registers}
 use Rattle.state.specs.declared.Moved.{Moved}
 use Rattle.across_frames.specs.declared.change.Change.{Change}
 use Rattle.across_frames.specs.declared.change.Change.TheVariants.{Moves, Over, Waits}
 use Rattle.std.specs.Prelude.{Ok}
-use Rattle.across_frames.specs.Lent.{moved, regs_at, stays_in, going, number_of, Framed, Standing, Landed}
+use Rattle.across_frames.specs.Lent.{moved, regs_at, stays_in, going, Framed, Standing, Landed}
 
 -- ---- The answer
 
 -- no number of an ending says how a step goes on
-pub high : (e : Ending) → 2 < number_of e
-high NoObject = omega arith
-high FramesUsed = omega arith
-high ObjectsUsed = omega arith
-high Cut = omega arith
-high NoSuch = omega arith
+pub high : (e : Ending) → 2 < number e
+high NullReference = omega arith
+high InvalidCast = omega arith
+high UsedFrames = omega arith
+high UsedObjects = omega arith
+high UsedBudget = omega arith
+high Undecodable = omega arith
+high BadOperand = omega arith
 high TooFew = omega arith
-high NoRoom = omega arith
-high Unfit = omega arith
+high TooMany = omega arith
+high WrongType = omega arith
+high PastEnd = omega arith
 
 module _ {first : ℕ} {value : Option Value} {g : Regs} {before : Work} {said : Answer ℕ Went} where
-  pub ends : (e : Ending) → said ≡ bad (number_of e) → Leaves (number_of e) first value (with_regs before g) before said
+  pub ends : (e : Ending) → said ≡ bad (number e) → Leaves (number e) first value (with_regs before g) before said
   unfolding moves answer pick
   ends e s =
-      let h : 2 < number_of e = high e in
-      record { says = simp (ne_eqb (number_of e) 1 (λ z. omega arith), ne_eqb (number_of e) 0 (λ z. omega arith), ne_eqb (number_of e) 2 (λ z. omega arith), s); kept = λ _. refl }
+      let h : 2 < number e = high e in
+      record { says = simp (ne_eqb (number e) 1 (λ z. omega arith), ne_eqb (number e) 0 (λ z. omega arith), ne_eqb (number e) 2 (λ z. omega arith), s); kept = λ _. refl }
 
 module _ {first : ℕ} {value : Option Value} {g : Regs} {before : Work} {said : Answer ℕ Went} where
   pub first_comes : said ≡ ok (waits first) → Leaves 2 first value (with_regs before g) before said

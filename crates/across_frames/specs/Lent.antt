@@ -8,8 +8,8 @@ use Rattle.across_frames.specs.declared.calls.Way.{Way}
 use Rattle.across_frames.specs.declared.calls.Way.TheVariants.{Call, Callvirt}
 use Rattle.across_frames.specs.declared.change.Change.{Change}
 use Rattle.across_frames.specs.declared.change.Change.TheVariants.{Moves, Over, Waits}
-use Rattle.across_frames.specs.declared.ending.Ending.{Ending}
-use Rattle.across_frames.specs.declared.ending.Ending.TheVariants.{NoObject, FramesUsed, ObjectsUsed, Cut, NoSuch, TooFew, NoRoom, Unfit}
+use Rattle.state.specs.declared.ending.Ending.{Ending}
+use Rattle.state.specs.Steps.{number}
 use Rattle.across_frames.specs.declared.registers.Registers.{Registers}
 use Rattle.across_frames.specs.declared.tables.Tables.{Tables as Lists}
 use Rattle.state.specs.View.{Regs, Work}
@@ -37,17 +37,6 @@ stays_in g how row = stays_at how g.stay g.at g.sp g.made row
 abbrev pub regs_in : Registers → Regs
 regs_in g = regs_at g.stay g.row g.at g.sp g.made
 
--- the numbers of document 01
-abbrev pub number_of : Ending → ℕ
-number_of NoObject = 34
-number_of FramesUsed = 36
-number_of ObjectsUsed = 37
-number_of Cut = 41
-number_of NoSuch = 42
-number_of TooFew = 43
-number_of NoRoom = 44
-number_of Unfit = 45
-
 -- the run goes on
 abbrev pub going : Moved → Moved
 going m = record { how = 0; at = m.at; sp = m.sp; fp = m.fp; row = m.row; made = m.made }
@@ -57,12 +46,12 @@ abbrev pub moved : Registers → Result Change Ending → Moved
 moved g (Ok (Moves m)) = going m
 moved g (Ok Over) = stays_in g 1 g.row
 moved g (Ok (Waits first)) = stays_in g 2 first
-moved g (Err e) = stays_in g (number_of e) g.row
+moved g (Err e) = stays_in g (number e) g.row
 
 -- what comes where nothing is refused
 abbrev pub unless : {A B : Type 0} → Result A Ending → (A → Answer ℕ B) → Answer ℕ B
 unless (Ok a) then = then a
-unless (Err e) then = bad (number_of e)
+unless (Err e) then = bad (number e)
 
 -- and where no initialiser comes first
 abbrev pub unless_due : Option ℕ → Answer ℕ Went → Answer ℕ Went

@@ -6,10 +6,10 @@ ghost use Rattle.state.specs.Work.{fit_all_w, taking_w, due_of_byte};
 ghost use Rattle.state.specs.Meets.{Stays, Topped, Placed};
 ghost use Rattle.across_frames.specs.Lent.{on_leave, unless};
 
-use crate::ending::Ending;
 use crate::enter::ROW;
 use crate::registers::Registers;
 use crate::tables::Tables;
+use state::ending::Ending;
 use state::fit::fits;
 
 // How many values a return type's byte gives.
@@ -80,10 +80,10 @@ pub fn take(
     }
     let from = sp - n;
     if !fit_all(cells, kinds, classes, tables, row, n, first, from) {
-        return Err(Ending::Unfit);
+        return Err(Ending::WrongType);
     }
     if registers.stay.limit < from + more {
-        return Err(Ending::NoRoom);
+        return Err(Ending::TooMany);
     }
     Ok(from)
 }

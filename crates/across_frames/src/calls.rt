@@ -11,12 +11,12 @@ ghost use Rattle.across_frames.specs.declared.calls.Way.TheVariants.{Callvirt};
 
 use crate::arguments::{due, take};
 use crate::change::Change;
-use crate::ending::Ending;
 use crate::enter::{ROW, copy, enter, first_due};
 use crate::registers::Registers;
 use crate::tables::{INITIALISER, INSTANCE, OBJECTS, Tables, VIRTUAL};
 use loaded::columns::{ARGUMENT_COUNT, METHOD_ROWS, OWNER, RETURN, ROOT, SORT};
 use state::columns::{FRAME, LAST_FRAME};
+use state::ending::Ending;
 
 // The instruction that calls.
 #[derive(Clone, Copy, PartialEq, Eq)]
@@ -50,7 +50,7 @@ fn invoke(
         return Ok(Change::Waits(first));
     }
     if LAST_FRAME <= registers.stay.fp {
-        return Err(Ending::FramesUsed);
+        return Err(Ending::UsedFrames);
     }
     marks[class] = 1;
     let from = registers.sp - n;
@@ -82,7 +82,7 @@ fn chosen_row(
         ≡ unless result then) }
 {
     if object == 0 {
-        return Err(Ending::NoObject);
+        return Err(Ending::NullReference);
     }
     let m = named * ROW;
     if tables.methods[m + SORT] != VIRTUAL {
@@ -156,7 +156,7 @@ pub fn call(
 {
     let m = named * ROW;
     if !callable(tables.methods[m + SORT], way) {
-        return Err(Ending::NoSuch);
+        return Err(Ending::BadOperand);
     }
     let n = tables.methods[m + ARGUMENT_COUNT] as usize;
     let more = due(tables.methods[m + RETURN]);

@@ -9,10 +9,10 @@ ghost use Rattle.state.specs.Meets.{Stays, Few, regs_of, Leaves};
 ghost use Rattle.across_frames.specs.Lent.{regs_at, regs_in, on_leave, moved, unless_due, RowRanges, Framed, Standing, Landed};
 
 use crate::change::Change;
-use crate::ending::Ending;
 use crate::registers::Registers;
 use loaded::columns::{LOCAL_COUNT, OWNER};
 use state::columns::{AT, DEPTH, FRAME, LAST_FRAME, LOCALS, METHOD, ON, STACK};
+use state::ending::Ending;
 use state::{Moved, Stay};
 
 // How many bytes a method's row has.
@@ -155,7 +155,7 @@ pub fn start(
         (start_w methods.now before first)) }
 {
     if LAST_FRAME <= registers.stay.fp {
-        return Err(Ending::FramesUsed);
+        return Err(Ending::UsedFrames);
     }
     let class = methods[first * ROW + OWNER] as usize;
     marks[class] = 1;

@@ -8,13 +8,13 @@ ghost use Rattle.across_frames.specs.Lent.{regs_in, on_leave, moved, LendsAll, o
 
 use crate::calls::{Way, call};
 use crate::change::Change;
-use crate::ending::Ending;
 use crate::objects::newobj;
 use crate::registers::Registers;
 use crate::returns::ret;
 use crate::tables::Tables;
 use code::operands::{four_after, whole};
 use state::columns::{CALLVIRT, NEWOBJ, RET};
+use state::ending::Ending;
 use state::tokens::row_named;
 
 // An opcode and its token.
@@ -51,11 +51,11 @@ pub fn leave(
         return ret(registers, cells, kinds, classes, tables);
     }
     if !whole(part, registers.at, BYTES) {
-        return Err(Ending::Cut);
+        return Err(Ending::Undecodable);
     }
     let n = row_named(four_after(part, registers.at) as u64, METHOD) as usize;
     if tables.count <= n {
-        return Err(Ending::NoSuch);
+        return Err(Ending::BadOperand);
     }
     let named = n + 1;
     if next == NEWOBJ {

@@ -4,7 +4,6 @@
 pub mod arguments; // what a call takes from the stack
 pub mod calls; // call and callvirt
 pub mod change; // how a step went
-pub mod ending; // what ends the run
 pub mod enter; // a new frame
 pub mod leave; // the step of a number
 pub mod objects; // newobj

@@ -9,13 +9,13 @@ ghost use Rattle.across_frames.specs.Lent.{regs_at, regs_in, on_leave, moved, ne
 
 use crate::arguments::take;
 use crate::change::Change;
-use crate::ending::Ending;
 use crate::enter::{ROW, copy, enter, first_due};
 use crate::registers::Registers;
 use crate::tables::{CONSTRUCTOR, OBJECTS, Tables};
 use loaded::columns::{ARGUMENT_COUNT, OWNER, SORT};
 use state::Moved;
 use state::columns::{FRAME, LAST_FRAME};
+use state::ending::Ending;
 
 // An object of a class is made, and the frame of its constructor entered: n cells of the stack are arguments after the reference, which takes their place.
 fn construct(
@@ -84,7 +84,7 @@ pub fn newobj(
 {
     let m = named * ROW;
     if tables.methods[m + SORT] != CONSTRUCTOR {
-        return Err(Ending::NoSuch);
+        return Err(Ending::BadOperand);
     }
     // `this` is no argument on the stack
     let n = (tables.methods[m + ARGUMENT_COUNT] as usize).saturating_sub(1);
@@ -95,10 +95,10 @@ pub fn newobj(
         return Ok(Change::Waits(first));
     }
     if OBJECTS <= registers.made {
-        return Err(Ending::ObjectsUsed);
+        return Err(Ending::UsedObjects);
     }
     if LAST_FRAME <= registers.stay.fp {
-        return Err(Ending::FramesUsed);
+        return Err(Ending::UsedFrames);
     }
     marks[class] = 1;
     Ok(Change::Moves(construct(

@@ -3,8 +3,8 @@ ghost use Rattle.std.specs.Prelude.{◌≡◌, Result};
 ghost use Rattle.across_frames.specs.Lent.{stays_in, moved};
 
 use crate::change::Change;
-use crate::ending::Ending;
 use state::columns::{ON, OVER, START};
+use state::ending::Ending;
 use state::{Moved, Stay};
 
 // The registers of a stay: the offset of its instruction, one past the stack's top, how many objects are made, and the method's row.
@@ -40,7 +40,7 @@ impl Registers {
             Ok(Change::Moves(moved)) => Moved { how: ON, ..moved },
             Ok(Change::Over) => self.stays(OVER, self.row),
             Ok(Change::Waits(first)) => self.stays(START, first),
-            Err(ending) => self.stays(u8::from(ending), self.row),
+            Err(ending) => self.stays(ending as u8, self.row),
         }
     }
 }

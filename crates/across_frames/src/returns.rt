@@ -8,12 +8,12 @@ ghost use Rattle.state.specs.Meets.{Stays, Topped, Placed, regs_of, Leaves};
 ghost use Rattle.across_frames.specs.Lent.{regs_in, on_leave, back_to, moved, unless, Standing, Landed};
 
 use crate::change::Change;
-use crate::ending::Ending;
 use crate::registers::Registers;
 use crate::tables::{INITIALISER, Tables};
 use loaded::columns::{RETURN, SORT};
 use state::Moved;
 use state::columns::{AT, DEPTH, FRAME, METHOD, ON, STACK};
+use state::ending::Ending;
 use state::fit::fits;
 
 // An instruction that calls is 5 bytes long.
@@ -42,18 +42,18 @@ fn returnable(
         if sp == floor {
             return Ok(());
         }
-        return Err(Ending::Unfit);
+        return Err(Ending::WrongType);
     }
     if sp == floor {
         return Err(Ending::TooFew);
     }
     if sp != floor + 1 {
-        return Err(Ending::Unfit);
+        return Err(Ending::WrongType);
     }
     if fits(classes, ancestors, kinds[floor], cells[floor], byte) {
         return Ok(());
     }
-    Err(Ending::Unfit)
+    Err(Ending::WrongType)
 }
 
 // How far the caller moves: past the call, and not after an initialiser.

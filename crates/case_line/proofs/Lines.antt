@@ -97,7 +97,7 @@ module _ (M : Module) (arguments : List ℕ) (budget : ℕ) (c : Result ⊤ Faul
   unfolding loaded_rest check_part run_part run_text told
   ended_rest r = rw (check_told (check_module M) c checks, r.runs, r.tells.value, r.tells.exact, bar_is) (simp append_assoc)
 
-  module _ (runs : Answers (run_module M arguments budget) e) (w x y : Text) (checked : x ≡ appended w (check_part c))
+  module _ (runs : Answers (run_module M arguments budget) e) (w x y : Text) (checked : x ≡ appended w (check_part (numbered c)))
       (ran : y ≡ appended x (run_part e.end e.steps (value_of e.value))) where
     -- the run is refused: no state
     pub refused_run : refuses e.end.number ≡ true → (z : Text) → z ≡ appended y (dash ++ line_feed) → z ≡ appended w (loaded_rest M arguments budget)
@@ -119,17 +119,18 @@ module _ (M : Module) (arguments : List ℕ) (budget : ℕ) (c : Result ⊤ Faul
 
 -- ---- The whole line from its two halves
 
-module _ (tables code arguments : List ℕ) (budget : ℕ) (f : Fault) (none : Type 0) (L : Loaded)
-    (says : Loads.Answers (load tables code) f none (λ M. Holds M code L)) (w x y : Text) (first : x ≡ appended w (load_part f)) where
-  pub refused_load : (f.number ≡ 0 → ⊥) → y ≡ appended x (refused_rest f) → y ≡ appended w (replay tables code arguments budget ++ line_feed)
-  refused_load n a = same w y _ _ (added_then w x y _ _ first a) (refused_line tables code arguments budget f (refused f none L says n))
-
-  pub loaded : f.number ≡ 0 → Bytes code → ((M : Module) → Fine M → Bounded M → Holds M code L → y ≡ appended x (loaded_rest M arguments budget))
+module _ (tables code arguments : List ℕ) (budget : ℕ) (r : Result Loaded Fault) (w x y : Text) (first : x ≡ appended w (load_part (numbered r))) where
+  pub refused_load : (f : Fault) → r ≡ Err f → Answered.Says tables code (Err f) → y ≡ appended x (refused_rest f)
       → y ≡ appended w (replay tables code arguments budget ++ line_feed)
-  unfolding Loads.Answers
-  loaded z b a =
-      let t = stands f none L says z in
+  unfolding numbered
+  refused_load f e says a = same w y _ _ (added_then w x y _ _ (rw e at first) a) (refused_line tables code arguments budget f (refused f says))
+
+  pub loaded : (L : Loaded) → r ≡ Ok L → Answered.Says tables code (Ok L) → Bytes code
+      → ((M : Module) → Fine M → Bounded M → Holds M code L → y ≡ appended x (loaded_rest M arguments budget))
+      → y ≡ appended w (replay tables code arguments budget ++ line_feed)
+  unfolding numbered
+  loaded L e says b a =
+      let t = stands L says in
       let M = t.module_is in
-      let q : f ≡ no_fault = (rw t.loads at says).0 in
-      same w y _ _ (added_then w x y _ _ first (a M (fine tables code M b t.loads) (bounded tables code M t.loads) t.holds))
-      (loaded_line tables code arguments budget M t.loads f q)
+      same w y _ _ (added_then w x y _ _ (rw e at first) (a M (fine tables code M b t.loads) (bounded tables code M t.loads) t.holds))
+      (loaded_line tables code arguments budget M t.loads)

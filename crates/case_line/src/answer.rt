@@ -6,7 +6,6 @@ ghost use Rattle.loaded.specs.Holds.{Holds};
 ghost use Rattle.state.specs.Order.{Fine};
 ghost use Rattle.checker.specs.Bounded.{Bounded};
 ghost use Rattle.line.specs.Append.{appended};
-ghost use Rattle.between_steps.specs.Running.{lent_loaded};
 ghost use Rattle.runner.specs.Answers.{Loads};
 ghost use Rattle.state_text.specs.Texts.{Says};
 ghost use Rattle.case_line.specs.Case.{line_feed};
@@ -15,8 +14,9 @@ ghost use Rattle.case_line.specs.Texts.{loaded_rest, refuses as refuses_of};
 use crate::parts::{check_part, load_part, refused_rest, run_part};
 use checker::check;
 use line::text::Text;
-use loaded::Counts;
-use loader::load_into;
+use loaded::Loaded;
+use loader::load;
+use loitsupar::numbered::numbered;
 use prepare::types;
 use runner::run;
 use state_text::whole::say;
@@ -65,36 +65,14 @@ fn state_part<'a>(
 }
 
 // What follows `load 0 0 `: check and run of the loaded module, and the state that the run ended with.
-fn loaded_rest(
-    text: &mut Text,
-    counts: Counts,
-    parents: &[u8; 33],
-    initialisers: &[u8; 33],
-    fields: &[u8; 516],
-    methods: &[u8; 4128],
-    parts: &[usize; 258],
-    code: &[u8],
-    arguments: &[u64],
-    budget: u64,
-)
-    requires { Loads code.now (lent_loaded counts parents.now initialisers.now fields.now methods.now parts.now) }
-    ensures { (M : Module) → Fine M → Bounded M →
-        Holds M code.now (lent_loaded counts parents.now initialisers.now fields.now methods.now
-        parts.now) → text.new ≡ appended text.old (loaded_rest M arguments.now budget) }
+fn loaded_rest(text: &mut Text, loaded: &Loaded, code: &[u8], arguments: &[u64], budget: u64)
+    requires { Loads code.now loaded.now }
+    ensures { (M : Module) → Fine M → Bounded M → Holds M code.now loaded.now
+        → text.new ≡ appended text.old (loaded_rest M arguments.now budget) }
 {
-    let found = check(counts, parents, fields, methods, parts, code);
+    let found = numbered(&check(loaded, code));
     check_part(text, found);
-    let e = run(
-        counts,
-        parents,
-        initialisers,
-        fields,
-        methods,
-        parts,
-        code,
-        arguments,
-        budget,
-    );
+    let e = run(loaded, code, arguments, budget);
     let end = e.end;
     let value = e.value;
     run_part(text, end, e.steps, value);
@@ -104,11 +82,17 @@ fn loaded_rest(
     }
     let mut cell_types = [0u8; 264];
     let mut static_types = [0u8; 64];
-    types(counts, parents, fields, &mut cell_types, &mut static_types);
+    types(
+        loaded.counts,
+        &loaded.parents,
+        &loaded.fields,
+        &mut cell_types,
+        &mut static_types,
+    );
     state_part(
         text,
-        methods,
-        fields,
+        &loaded.methods,
+        &loaded.fields,
         &cell_types,
         e.state.live,
         &e.state.cells,
@@ -126,36 +110,10 @@ pub fn answer(text: &mut Text, tables: &[u8], code: &[u8], arguments: &[u64], bu
     ensures same_buffer { text.new.out.ghost_name ≡ text.old.out.ghost_name }
     ensures text { text.new ≡ appended text.old (replay tables.now code.now arguments.now budget ++ line_feed) }
 {
-    let mut parents = [0u8; 33];
-    let mut initialisers = [0u8; 33];
-    let mut fields = [0u8; 516];
-    let mut methods = [0u8; 4128];
-    let mut parts = [0usize; 258];
-    let l = load_into(
-        tables,
-        code,
-        &mut parents,
-        &mut initialisers,
-        &mut fields,
-        &mut methods,
-        &mut parts,
-    );
-    let fault = l.fault;
-    load_part(text, fault);
-    if fault.number != 0 {
-        refused_rest(text, fault);
-        return;
+    let answer = load(tables, code);
+    load_part(text, numbered(&answer));
+    match answer {
+        Ok(loaded) => loaded_rest(text, &loaded, code, arguments, budget),
+        Err(refusal) => refused_rest(text, refusal),
     }
-    loaded_rest(
-        text,
-        l.counts,
-        &parents,
-        &initialisers,
-        &fields,
-        &methods,
-        &parts,
-        code,
-        arguments,
-        budget,
-    );
 }

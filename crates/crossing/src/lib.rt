@@ -10,12 +10,12 @@ ghost use Rattle.across_frames.specs.Lent.{regs_at, regs_in, on_leave, moved, Le
 ghost use Rattle.crossing.specs.Crossing.{crossing, Crosses};
 
 use across_frames::change::Change;
-use across_frames::ending::Ending;
 use across_frames::enter::start;
 use across_frames::leave::leave;
 use across_frames::registers::Registers;
 use across_frames::tables::Tables;
 use state::columns::START;
+use state::ending::Ending;
 use state::{Moved, Stay};
 
 // The step with the number `next`. Where it has to wait for an initialiser, that one's frame comes.

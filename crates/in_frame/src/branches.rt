@@ -12,7 +12,8 @@ use crate::operands::led;
 use code::operands::{byte_after, four_after, whole};
 use operators::codes::{Jump, Relation};
 use operators::comparisons::{both, related};
-use state::Stay;
+use state::ending::{Ending, ends};
+use state::{Stay, Step};
 
 // The bits of a value: of an int32 the low 32.
 fn shown(kind: u8, bits: u64) -> u64
@@ -79,9 +80,9 @@ fn when(
     let i = sp - 2;
     let j = sp - 1;
     match related(relation, both(kinds[i], kinds[j]), cells[i], cells[j]) {
-        Some(true) => on(target, i),
-        Some(false) => on(next, i),
-        None => ends(45, at, sp),
+        Some(true) => Step::On { at: target, sp: i },
+        Some(false) => Step::On { at: next, sp: i },
+        None => ends(Ending::WrongType),
     }
 }
 

@@ -8,7 +8,8 @@ ghost use Rattle.operators.specs.Gives.{binary_by, unary_by};
 
 use crate::codes::{Binary, Unary};
 use crate::operators::{converted, operated};
-use state::{Gone, Stay};
+use state::ending::{Ending, ends};
+use state::{Stay, Step};
 
 // Two operands.
 #[inline(always)]
@@ -36,17 +37,12 @@ pub fn binary(
         Ok(cell) => {
             kinds[i] = cell.kind;
             cells[i] = cell.bits;
-            Gone {
-                how: 0,
+            Step::On {
                 at: next,
                 sp: i + 1,
             }
         }
-        Err(e) => Gone {
-            how: u8::from(e),
-            at: at,
-            sp: sp,
-        },
+        Err(e) => Step::Ends(u8::from(e)),
     }
 }
 
@@ -75,16 +71,11 @@ pub fn unary(
         Ok(cell) => {
             kinds[i] = cell.kind;
             cells[i] = cell.bits;
-            Gone {
-                how: 0,
+            Step::On {
                 at: next,
                 sp: i + 1,
             }
         }
-        Err(e) => Gone {
-            how: u8::from(e),
-            at: at,
-            sp: sp,
-        },
+        Err(e) => Step::Ends(u8::from(e)),
     }
 }

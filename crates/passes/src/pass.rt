@@ -92,7 +92,7 @@ fn read_at(code: &[u8], starts: &[u8; 1024], at: usize) -> Insn
     ensures onward { at < result.next }
     ensures reading { Reading code.now starts.now result.next }
 {
-    known(code, at, wide(starts[at]))
+    known(code, at, starts[at] as usize)
 }
 
 // An operand fault at or after an offset comes before a shape's fault.

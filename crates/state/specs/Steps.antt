@@ -7,7 +7,7 @@ use Rattle.state.specs.declared.Step.TheVariants.{On, Start, Ends, Leaves}
 use Rattle.state.specs.declared.Leave.{Leave}
 use Rattle.state.specs.declared.Leave.TheVariants.{Ret, Call, Callvirt, Newobj}
 use Rattle.state.specs.declared.ending.Ending.{Ending}
-use Rattle.state.specs.declared.ending.Ending.TheVariants.{NullReference, InvalidCast, UsedBudget, Undecodable, BadOperand, TooFew, TooMany, WrongType, PastEnd}
+use Rattle.state.specs.declared.ending.Ending.TheVariants.{NullReference, InvalidCast, UsedFrames, UsedObjects, UsedBudget, Undecodable, BadOperand, TooFew, TooMany, WrongType, PastEnd}
 use Rattle.state.specs.View.{Work}
 use Rattle.state.specs.Work.{Went, with_regs, moved_to}
 use Rattle.state.specs.Meets.{Topped, Meets}
@@ -16,6 +16,8 @@ use Rattle.state.specs.Meets.{Topped, Meets}
 abbrev pub number : Ending → ℕ
 number NullReference = 34
 number InvalidCast = 35
+number UsedFrames = 36
+number UsedObjects = 37
 number UsedBudget = 38
 number Undecodable = 41
 number BadOperand = 42

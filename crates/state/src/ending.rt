@@ -9,6 +9,9 @@ use crate::Step;
 pub enum Ending {
     NullReference = 34,
     InvalidCast = 35,
+    // no frame is left, and no place for an object
+    UsedFrames = 36,
+    UsedObjects = 37,
     UsedBudget = 38,
     // the bytes are no instruction
     Undecodable = 41,

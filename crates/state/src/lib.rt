@@ -2,6 +2,7 @@
 #![tactic(auto)]
 
 pub mod columns; // what stands where in a frame
+mod empty; // a state in which nothing is
 pub mod ending; // why a run ends
 pub mod fit; // whether a value fits a declared type
 pub mod tokens; // the rows that tokens name

@@ -1,6 +1,6 @@
 -- The parts of a line in their order, and how long it can be.
 use mathlib.Core.Path.{◌≡◌, refl, sym, ap, ◌∙◌}
-use mathlib.Core.Bool.{Bool}
+use mathlib.Core.Bool.{Bool, true, false}
 use mathlib.Core.List.{List, [], ◌∷◌, ◌++◌, append_assoc, append-nil}
 use Prim.Native.Nat.{ℕ, ◌+◌, ◌*◌, ◌≤◌, ◌<◌}
 use native.Mathlib.Numerals.{add-one}
@@ -11,7 +11,6 @@ use Rattle.model.specs.Operators.{flag}
 use Rattle.model.specs.Turn.{decimal, space}
 use Rattle.line.specs.Append.{appended, Appended}
 use Rattle.line.specs.declared.text.Text.{Text}
-use mathlib.Core.Bool.{Bool, true, false}
 use Rattle.std.specs.Int.{from_bool}
 use Rattle.line.proofs.Appending.{added_then, same}
 use Rattle.line.proofs.Spelling.{decimal_length}
@@ -41,17 +40,21 @@ further a b c d l i h p q r =
 
 -- ---- The line
 
+-- what is written of an answer
+abbrev pub Told : Type 0
+Told = Result (Option Found) Fault
+
 flag_is : (b : Bool) → flag b ≡ from_bool b
 unfolding flag
 flag_is true = refl
 flag_is false = refl
 
-pub in_order : (t : Told)
-    → ((((((decimal t.fault.number ++ space) ++ (decimal t.fault.method ++ space)) ++ (decimal t.fault.offset ++ space))
-    ++ (decimal (from_bool t.found.starts) ++ space)) ++ decimal t.found.depth) ++ spaced (take t.found.depth t.found.types)) ++ (10 ∷ [])
+pub in_order : (t : Told) {f : Fault} {s : Bool × ℕ × List ℕ} → f ≡ numbered t → s ≡ seen t
+    → ((((((decimal f.number ++ space) ++ (decimal f.method ++ space)) ++ (decimal f.offset ++ space))
+    ++ (decimal (from_bool s.0) ++ space)) ++ decimal s.1) ++ spaced (take s.1 s.2)) ++ (10 ∷ [])
     ≡ line_of t
 unfolding line_of spaced
-in_order t = rw (flag_is t.found.starts) (simp append_assoc)
+in_order t {f} {s} e q = rw (e, q, flag_is (seen t).0) (simp append_assoc)
 
 spaced_length : (l : List ℕ) → length (spaced l) ≤ 21 * length l
 unfolding spaced space

@@ -1,7 +1,7 @@
 // The line of `tell`: the shape that the check found before an instruction, in numbers.
 #![tactic(auto)]
 
-ghost use Rattle.std.specs.Prelude.{◌≡◌, ◌≤◌, length, take};
+ghost use Rattle.std.specs.Prelude.{◌≡◌, ◌≤◌, length};
 ghost use Rattle.std.proofs.lemmas.List.Edits.{sets};
 ghost use Rattle.model.specs.Check.{shape_found};
 ghost use Rattle.line.specs.Append.{appended};
@@ -11,7 +11,9 @@ ghost use Rattle.tell_line.specs.Shapes.{spaced as spaced_of, seen as seen_of, l
 use checker::tell::Found;
 use code::part::part;
 use line::text::Text;
-use loitsupar::telling::{Told, tell};
+use loaded::Fault;
+use loitsupar::numbered::numbered;
+use loitsupar::telling::tell;
 
 // A space and a number, for each.
 fn spaced(text: &mut Text, numbers: &[u8])
@@ -23,19 +25,40 @@ fn spaced(text: &mut Text, numbers: &[u8])
     }
 }
 
-// The fault, whether an instruction starts there, the depth, and as many types as that, the bottom first.
-fn write_told(text: &mut Text, told: Told)
-    ensures { text.new ≡ appended text.old (line_of told) }
+// The types of a shape.
+fn types_of(found: &Found) -> [u8; 32]
+    ensures { (result ≡ found.now.types) × (length result ≡ 32) }
 {
-    let fault = told.fault;
-    let found = told.found;
-    let types = found.types;
+    found.types
+}
+
+// Whether an instruction starts there, its depth and the types, the bottom first: nothing behind a fault.
+fn seen(told: &Result<Option<Found>, Fault>) -> (bool, usize, [u8; 32])
+    ensures is { result ≡ seen_of told.now }
+    ensures long { length (seen_of told.now).2 ≡ 32 }
+{
+    match told {
+        Ok(shape) => match shape {
+            Some(found) => (true, found.depth, types_of(found)),
+            None => (false, 0, [0u8; 32]),
+        },
+        Err(_) => (false, 0, [0u8; 32]),
+    }
+}
+
+// The fault, whether an instruction starts there, the depth, and as many types as that, the bottom first.
+fn write_told(text: &mut Text, told: &Result<Option<Found>, Fault>)
+    ensures text { text.new ≡ appended text.old (line_of told.now) }
+    ensures long { length (seen_of told.now).2 ≡ 32 }
+{
+    let fault = numbered(told);
+    let (starts, depth, types) = seen(told);
     text.number(fault.number as usize);
     text.number(fault.method);
     text.number(fault.offset);
-    text.number(found.starts as usize);
-    text.decimal(found.depth as u64);
-    spaced(text, part(&types, 0, found.depth));
+    text.number(starts as usize);
+    text.decimal(depth as u64);
+    spaced(text, part(&types, 0, depth));
     text.put(b'\n');
 }
 
@@ -47,6 +70,6 @@ pub fn line(tables: &[u8], code: &[u8], row: usize, offset: usize, out: &mut [u8
 {
     let told = tell(tables, code, row, offset);
     let mut text = Text::up_to(out, 0);
-    write_told(&mut text, told);
+    write_told(&mut text, &told);
     text.end()
 }

@@ -21,6 +21,7 @@ use check_operands::step::{plain, step};
 use code::insn::Insn;
 use loaded::Loaded;
 use loaded::columns::{METHOD, RETURN};
+use shapes::fault::FaultKind;
 
 // One instruction.
 pub fn visit(
@@ -110,13 +111,13 @@ pub fn refused(
         return undeclared(&loaded.methods, row, g, op, n as usize);
     }
     if g < CASTS {
-        return method_row(loaded.counts.methods, &loaded.methods, n, g - CALL) == 0;
+        return method_row(loaded.counts.methods, &loaded.methods, n, g - CALL).is_none();
     }
     if g == CASTS {
-        return class_row(loaded.counts.classes, n) == 0;
+        return class_row(loaded.counts.classes, n).is_none();
     }
     if g < LDSFLD {
-        return field_row(loaded.counts.fields, &loaded.fields, n, INSTANCE) == 0;
+        return field_row(loaded.counts.fields, &loaded.fields, n, INSTANCE).is_none();
     }
-    field_row(loaded.counts.fields, &loaded.fields, n, ONE_FOR_ALL) == 0
+    field_row(loaded.counts.fields, &loaded.fields, n, ONE_FOR_ALL).is_none()
 }

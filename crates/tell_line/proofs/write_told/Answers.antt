@@ -12,4 +12,7 @@ returns c =
     let offset = added_then _ _ _ _ _ (added_then _ _ _ _ _ c.number.ensures c.number-2.ensures) c.number-3.ensures in
     let depth = added_then _ _ _ _ _ (added_then _ _ _ _ _ offset c.number-4.ensures) c.decimal.ensures in
     let types = added_then _ _ _ _ _ depth (same _ _ _ _ c.spaced.ensures (ap spaced c.part.ensures)) in
-    same _ _ _ _ (added_then _ _ _ _ _ types c.put.ensures) (in_order c.args.told)
+    record {
+      text = same _ _ _ _ (added_then _ _ _ _ _ types c.put.ensures) (in_order c.args.told.now c.numbered-fault.ensures c.seen-starts.ensures.is);
+      long = c.seen-starts.ensures.long;
+    }

@@ -1,13 +1,13 @@
 use mathlib.Core.Path.{refl, ◌∙◌}
 use Rattle.std.proofs.lemmas.Result.{err_from_is_err_and}
-use Rattle.across_frames.specs.declared.ending.Ending.TheVariants.{NoSuch}
+use Rattle.state.specs.declared.ending.Ending.TheVariants.{BadOperand}
 use Rattle.across_frames.specs.Lent.{regs_in, on_leave}
 use Rattle.across_frames.proofs.Called.{named_none, named_takes, refused, accepted}
 use Rattle.across_frames.proofs.Moving.{ends, instead}
 use Rattle.across_frames.proofs.calls.call.Goals as goal
 
 pub returns-then-not-callable-clause-leaves : goal.returns-then-not-callable-clause-leaves
-returns-then-not-callable-clause-leaves c = λ w v. ends NoSuch (named_none _ _ _ _ c.args.registers.stay _ _ c.args.way c.callable.ensures c.if-not-callable.true)
+returns-then-not-callable-clause-leaves c = λ w v. ends BadOperand (named_none _ _ _ _ c.args.registers.stay _ _ c.args.way c.callable.ensures c.if-not-callable.true)
 
 pub returns-in_err-from-clause-leaves : goal.returns-in_err-from-clause-leaves
 returns-in_err-from-clause-leaves c = λ w v.

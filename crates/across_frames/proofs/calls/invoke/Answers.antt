@@ -2,7 +2,7 @@ use mathlib.Core.Path.{refl, ◌∙◌}
 use Prim.Native.Nat.{◌+◌, ◌*◌}
 use lib.ListN.{get_or, set}
 use Rattle.state.specs.Work.{with_marks}
-use Rattle.across_frames.specs.declared.ending.Ending.TheVariants.{FramesUsed}
+use Rattle.state.specs.declared.ending.Ending.TheVariants.{UsedFrames}
 use Rattle.across_frames.specs.Lent.{regs_in, on_leave}
 use Rattle.across_frames.proofs.Called.{invoke_starts, invoke_full, invoke_goes}
 use Rattle.across_frames.proofs.Moving.{ends, first_comes, goes}
@@ -16,7 +16,7 @@ returns-in-Some-clause-leaves c = λ w v.
 pub returns-then-registers-ge-LAST_FRAME-clause-leaves : goal.returns-then-registers-ge-LAST_FRAME-clause-leaves
 returns-then-registers-ge-LAST_FRAME-clause-leaves c = λ w v.
     let b = on_leave w (regs_in c.args.registers) c.args.cells.now w.kinds c.args.marks.now w.classes in
-    ends FramesUsed (invoke_starts _ _ b _ _ refl (c.in_default.ensures.as_model b _ refl) ∙ invoke_full _ _ _ _ _ c.if-registers-ge-LAST_FRAME.true)
+    ends UsedFrames (invoke_starts _ _ b _ _ refl (c.in_default.ensures.as_model b _ refl) ∙ invoke_full _ _ _ _ _ c.if-registers-ge-LAST_FRAME.true)
 
 pub returns-clause-leaves : goal.returns-clause-leaves
 returns-clause-leaves c = λ w v.

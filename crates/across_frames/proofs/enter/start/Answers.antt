@@ -3,12 +3,12 @@ use mathlib.Core.Path.{refl}
 use Prim.Native.Nat.{◌+◌, ◌*◌}
 use lib.ListN.{get_or, set}
 use Rattle.state.specs.Work.{with_marks}
-use Rattle.across_frames.specs.declared.ending.Ending.TheVariants.{FramesUsed}
+use Rattle.state.specs.declared.ending.Ending.TheVariants.{UsedFrames}
 use Rattle.across_frames.proofs.Moving.{landed, landed_on, ends, goes, start_full, start_goes}
 use Rattle.across_frames.proofs.enter.start.Goals as goal
 
 pub returns-then-registers-ge-LAST_FRAME : goal.returns-then-registers-ge-LAST_FRAME
-returns-then-registers-ge-LAST_FRAME c = record { landed = landed c.args.registers c.requires.standing c.requires.standing.row_few; leaves = λ w v. ends FramesUsed (start_full _ _ _ c.if-registers-ge-LAST_FRAME.true) }
+returns-then-registers-ge-LAST_FRAME c = record { landed = landed c.args.registers c.requires.standing c.requires.standing.row_few; leaves = λ w v. ends UsedFrames (start_full _ _ _ c.if-registers-ge-LAST_FRAME.true) }
 
 pub bounds-marks-class : goal.bounds-marks-class
 bounds-marks-class c = omega (arith, c.requires.row_ranges.owner_few c.args.first)

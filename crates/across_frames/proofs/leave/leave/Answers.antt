@@ -5,7 +5,7 @@ use lib.Dec.{eqb}
 use Prim.Native.Nat.{◌+◌}
 use borrow.Author.Tests.{leb-true}
 use Rattle.state.specs.Work.{due_of_byte, value_due}
-use Rattle.across_frames.specs.declared.ending.Ending.TheVariants.{Cut, NoSuch}
+use Rattle.state.specs.declared.ending.Ending.TheVariants.{Undecodable, BadOperand}
 use Rattle.across_frames.specs.Lent.{regs_in, on_leave}
 use Rattle.across_frames.proofs.Moving.{ends, instead}
 use Rattle.across_frames.proofs.Acting.{way_of, way_virtual, way_plain, acts_ret, no_token, by_token, none_named, new_named, call_named}
@@ -20,7 +20,7 @@ returns-then-next-eq-RET-clause-leaves c = λ P w q.
 pub returns-then-not-whole-clause-leaves : goal.returns-then-not-whole-clause-leaves
 returns-then-not-whole-clause-leaves c = λ P w q.
     let b = on_leave w (regs_in c.args.registers) c.args.cells.now c.args.kinds.now c.args.marks.now c.args.classes.now in
-    ends Cut (no_token P _ c.args.registers.stay b c.requires.at_range.0 c.requires.at_range.1 c.if-next-eq-RET.false c.whole.ensures (ap not c.if-not-whole.true))
+    ends Undecodable (no_token P _ c.args.registers.stay b c.requires.at_range.0 c.requires.at_range.1 c.if-next-eq-RET.false c.whole.ensures (ap not c.if-not-whole.true))
 
 pub four_after-requires : goal.four_after-requires
 four_after-requires c = leb-true _ _ (sym c.whole.ensures ∙ c.if-not-whole.false)
@@ -28,7 +28,7 @@ four_after-requires c = leb-true _ _ (sym c.whole.ensures ∙ c.if-not-whole.fal
 pub returns-then-tables-n-clause-leaves : goal.returns-then-tables-n-clause-leaves
 returns-then-tables-n-clause-leaves c = λ P w q.
     let b = on_leave w (regs_in c.args.registers) c.args.cells.now c.args.kinds.now c.args.marks.now c.args.classes.now in
-    ends NoSuch (by_token P _ c.args.registers.stay b c.requires.at_range.0 c.requires.at_range.1 c.if-next-eq-RET.false c.whole.ensures (ap not c.if-not-whole.false) c.four_after.ensures.0 ∙ none_named P _ c.args.registers.stay _ _ q c.row_named-n.ensures c.requires.in_range.count_few _ _ c.if-tables-n.true)
+    ends BadOperand (by_token P _ c.args.registers.stay b c.requires.at_range.0 c.requires.at_range.1 c.if-next-eq-RET.false c.whole.ensures (ap not c.if-not-whole.false) c.four_after.ensures.0 ∙ none_named P _ c.args.registers.stay _ _ q c.row_named-n.ensures c.requires.in_range.count_few _ _ c.if-tables-n.true)
 
 pub returns-then-next-eq-NEWOBJ-clause-leaves : goal.returns-then-next-eq-NEWOBJ-clause-leaves
 returns-then-next-eq-NEWOBJ-clause-leaves c = λ P w q.

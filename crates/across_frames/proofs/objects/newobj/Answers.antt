@@ -3,7 +3,7 @@ use Prim.Native.Nat.{◌+◌, ◌*◌}
 use lib.ListN.{get_or, set}
 use Rattle.std.proofs.lemmas.Result.{err_from_is_err_and}
 use Rattle.state.specs.Work.{with_marks}
-use Rattle.across_frames.specs.declared.ending.Ending.TheVariants.{FramesUsed, ObjectsUsed, NoSuch}
+use Rattle.state.specs.declared.ending.Ending.TheVariants.{UsedFrames, UsedObjects, BadOperand}
 use Rattle.across_frames.specs.Lent.{regs_in, on_leave}
 use Rattle.across_frames.proofs.Made.{new_none, new_takes, making_none, making_full, making_goes}
 use Rattle.across_frames.proofs.Called.{refused, accepted}
@@ -11,7 +11,7 @@ use Rattle.across_frames.proofs.Moving.{ends, first_comes, goes}
 use Rattle.across_frames.proofs.objects.newobj.Goals as goal
 
 pub returns-then-tables-m-ne-CONSTRUCTOR-clause-leaves : goal.returns-then-tables-m-ne-CONSTRUCTOR-clause-leaves
-returns-then-tables-m-ne-CONSTRUCTOR-clause-leaves c = λ w v. ends NoSuch (new_none _ _ _ c.args.registers.stay _ _ c.if-tables-m-ne-CONSTRUCTOR.true)
+returns-then-tables-m-ne-CONSTRUCTOR-clause-leaves c = λ w v. ends BadOperand (new_none _ _ _ c.args.registers.stay _ _ c.if-tables-m-ne-CONSTRUCTOR.true)
 
 pub returns-in_err-take-clause-leaves : goal.returns-in_err-take-clause-leaves
 returns-in_err-take-clause-leaves c = λ w v.
@@ -27,12 +27,12 @@ returns-in-Some-clause-leaves c = λ w v.
 pub returns-then-registers-ge-OBJECTS-clause-leaves : goal.returns-then-registers-ge-OBJECTS-clause-leaves
 returns-then-registers-ge-OBJECTS-clause-leaves c = λ w v.
     let b = on_leave w (regs_in c.args.registers) c.args.cells.now c.args.kinds.now c.args.marks.now c.args.classes.now in
-    ends ObjectsUsed (new_takes _ _ _ c.args.registers.stay b _ c.if-tables-m-ne-CONSTRUCTOR.false refl c.saturating_sub-n.ensures refl ∙ accepted _ (c.in_ok-take.ensures.as_model b refl) ∙ c.in_default.ensures.as_model b _ refl ∙ making_none _ _ _ _ _ _ c.if-registers-ge-OBJECTS.true)
+    ends UsedObjects (new_takes _ _ _ c.args.registers.stay b _ c.if-tables-m-ne-CONSTRUCTOR.false refl c.saturating_sub-n.ensures refl ∙ accepted _ (c.in_ok-take.ensures.as_model b refl) ∙ c.in_default.ensures.as_model b _ refl ∙ making_none _ _ _ _ _ _ c.if-registers-ge-OBJECTS.true)
 
 pub returns-then-registers-ge-LAST_FRAME-clause-leaves : goal.returns-then-registers-ge-LAST_FRAME-clause-leaves
 returns-then-registers-ge-LAST_FRAME-clause-leaves c = λ w v.
     let b = on_leave w (regs_in c.args.registers) c.args.cells.now c.args.kinds.now c.args.marks.now c.args.classes.now in
-    ends FramesUsed (new_takes _ _ _ c.args.registers.stay b _ c.if-tables-m-ne-CONSTRUCTOR.false refl c.saturating_sub-n.ensures refl ∙ accepted _ (c.in_ok-take.ensures.as_model b refl) ∙ c.in_default.ensures.as_model b _ refl ∙ making_full _ _ _ _ _ _ c.if-registers-ge-OBJECTS.false c.if-registers-ge-LAST_FRAME.true)
+    ends UsedFrames (new_takes _ _ _ c.args.registers.stay b _ c.if-tables-m-ne-CONSTRUCTOR.false refl c.saturating_sub-n.ensures refl ∙ accepted _ (c.in_ok-take.ensures.as_model b refl) ∙ c.in_default.ensures.as_model b _ refl ∙ making_full _ _ _ _ _ _ c.if-registers-ge-OBJECTS.false c.if-registers-ge-LAST_FRAME.true)
 
 pub returns-clause-leaves : goal.returns-clause-leaves
 returns-clause-leaves c = λ w v.

@@ -11,13 +11,13 @@ pub returns-in-Some-true : goal.returns-in-Some-true
 unfolding goto pick
 returns-in-Some-true c =
     let said = rw c.in-Some-true.field-0-test at c.in-Some-true.ensures _ _ (c.requires.few.most _) (c.requires.few.most _) c.both.ensures in
-    rw c.on.ensures (record { own = search rules; meets = λ s. when_goes _ _ _ _ _ c.if-sp-y.false {t = true} said })
+    record { own = search rules; meets = λ s. when_goes _ _ _ _ _ c.if-sp-y.false {t = true} said }
 
 pub returns-in-Some-false : goal.returns-in-Some-false
 unfolding goto pick
 returns-in-Some-false c =
     let said = rw c.in-Some-false.field-0-test at c.in-Some-false.ensures _ _ (c.requires.few.most _) (c.requires.few.most _) c.both.ensures in
-    rw c.on-in-Some-false.ensures (record { own = search rules; meets = λ s. when_goes _ _ _ _ _ c.if-sp-y.false {t = false} said })
+    record { own = search rules; meets = λ s. when_goes _ _ _ _ _ c.if-sp-y.false {t = false} said }
 
 pub returns-in-None : goal.returns-in-None
 returns-in-None c =

@@ -33,8 +33,8 @@ returns-then-g-lt-CASTS c =
     let the-if2 = c.if-g-lt-CALL in
     let the-if3 = c.if-g-lt-CASTS in
     λ M m all max H z st. quiet_refused M m all start.args.i _ _ (the-group.ensures c.args.tables.now.right_groups) the-if1.false
-    (method_none M m _ _ H.by_method _ _ c.method_row.result _ refl (c.method_row.ensures.as_model_3 H.by_method.few)
-    (λ s q. c.method_row.ensures.as_model s H.by_method.few q) ∙ sym
+    (method_none M m _ _ H.by_method _ _ _ (c.method_row.ensures.none H.by_method.few)
+    (λ r s q. c.method_row.ensures.as_model r s H.by_method.few q) _ c.is_none-then-g-lt-CASTS.ensures ∙ sym
     (ap (λ (x : Ins). is_none (operands M m x)) (ins_call _ _ _ _ the-if2.false the-if3.true)))
 
 pub returns-then-g-eq-CASTS : goal.returns-then-g-eq-CASTS
@@ -44,7 +44,7 @@ returns-then-g-eq-CASTS c =
     let the-if1 = c.if-g-ge-BR in
     let the-if4 = c.if-g-eq-CASTS in
     λ M m all max H z st. quiet_refused M m all start.args.i _ _ (the-group.ensures c.args.tables.now.right_groups) the-if1.false
-    (class_none M m _ _ _ H.by_class.count (c.class_row.ensures.1 H.by_class.few) ∙ sym
+    (class_none M m _ _ _ H.by_class.count (c.class_row.ensures.as_model H.by_class.few) _ c.is_none-then-g-eq-CASTS.ensures ∙ sym
     (ap (λ (x : Ins). is_none (operands M m x)) (ins_cast _ _ _ _ the-if4.true)))
 
 pub returns-then-g-lt-LDSFLD : goal.returns-then-g-lt-LDSFLD
@@ -57,10 +57,9 @@ returns-then-g-lt-LDSFLD c =
     let the-if4 = c.if-g-eq-CASTS in
     let the-if5 = c.if-g-lt-LDSFLD in
     λ M m all max H z st. quiet_refused M m all start.args.i _ _ (the-group.ensures c.args.tables.now.right_groups) the-if1.false
-    (field_low (λ (o : Option Act). eqb c.field_row.result 0 ≡ is_none o) M m _ _ (above _ the-if3.false the-if4.false) the-if5.true
-    (field_none M _ start.args.loaded.now.fields H.by_field false Act.ldfld start.args.i.operand c.field_row.result _ refl
-    (c.field_row.ensures.as_model H.by_field.few)) (field_none M _ start.args.loaded.now.fields H.by_field false Act.stfld start.args.i.operand
-    c.field_row.result _ refl (c.field_row.ensures.as_model H.by_field.few)) ∙ sym
+    (field_low (λ (o : Option Act). c.is_none-then-g-lt-LDSFLD.result ≡ is_none o) M m _ _ (above _ the-if3.false the-if4.false) the-if5.true
+    (field_none M _ start.args.loaded.now.fields H.by_field false Act.ldfld start.args.i.operand _ (c.field_row.ensures.as_model H.by_field.few) _ c.is_none-then-g-lt-LDSFLD.ensures) (field_none M _ start.args.loaded.now.fields H.by_field false Act.stfld start.args.i.operand
+    _ (c.field_row.ensures.as_model H.by_field.few) _ c.is_none-then-g-lt-LDSFLD.ensures) ∙ sym
     (ap (λ (x : Ins). is_none (operands M m x)) (ins_field _ _ _ _ the-if3.false the-if4.false the-if1.false)))
 
 pub returns : goal.returns
@@ -73,8 +72,7 @@ returns c =
     let the-if4 = c.if-g-eq-CASTS in
     let the-if5 = c.if-g-lt-LDSFLD in
     λ M m all max H z st. quiet_refused M m all start.args.i _ _ (the-group.ensures c.args.tables.now.right_groups) the-if1.false
-    (field_high (λ (o : Option Act). eqb c.field_row-2.result 0 ≡ is_none o) M m _ _ the-if5.false
-    (field_none M _ start.args.loaded.now.fields H.by_field true Act.ldsfld start.args.i.operand c.field_row-2.result _ refl
-    (c.field_row-2.ensures.as_model H.by_field.few)) (field_none M _ start.args.loaded.now.fields H.by_field true Act.stsfld start.args.i.operand
-    c.field_row-2.result _ refl (c.field_row-2.ensures.as_model H.by_field.few)) ∙ sym
+    (field_high (λ (o : Option Act). c.is_none-2.result ≡ is_none o) M m _ _ the-if5.false
+    (field_none M _ start.args.loaded.now.fields H.by_field true Act.ldsfld start.args.i.operand _ (c.field_row-2.ensures.as_model H.by_field.few) _ c.is_none-2.ensures) (field_none M _ start.args.loaded.now.fields H.by_field true Act.stsfld start.args.i.operand
+    _ (c.field_row-2.ensures.as_model H.by_field.few) _ c.is_none-2.ensures) ∙ sym
     (ap (λ (x : Ins). is_none (operands M m x)) (ins_field _ _ _ _ the-if3.false the-if4.false the-if1.false)))
