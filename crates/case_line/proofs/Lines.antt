@@ -119,17 +119,17 @@ module _ (M : Module) (arguments : List ℕ) (budget : ℕ) (c : Result ⊤ Faul
 
 -- ---- The whole line from its two halves
 
-module _ (tables code arguments : List ℕ) (budget : ℕ) (r : Result Loaded Fault) (w x y : Text) (first : x ≡ appended w (load_part (numbered r))) where
-  pub refused_load : (f : Fault) → r ≡ Err f → Answered.Says tables code (Err f) → y ≡ appended x (refused_rest f)
+module _ (tables code arguments : List ℕ) (budget : ℕ) (r : Result ⊤ Fault) (L : Loaded) (w x y : Text) (first : x ≡ appended w (load_part (numbered r))) where
+  pub refused_load : (f : Fault) → r ≡ Err f → Answered.Says tables code (Err f) L → y ≡ appended x (refused_rest f)
       → y ≡ appended w (replay tables code arguments budget ++ line_feed)
   unfolding numbered
-  refused_load f e says a = same w y _ _ (added_then w x y _ _ (rw e at first) a) (refused_line tables code arguments budget f (refused f says))
+  refused_load f e says a = same w y _ _ (added_then w x y _ _ (rw e at first) a) (refused_line tables code arguments budget f (refused L f says))
 
-  pub loaded : (L : Loaded) → r ≡ Ok L → Answered.Says tables code (Ok L) → Bytes code
+  pub loaded : r ≡ Ok tt → Answered.Says tables code (Ok tt) L → Bytes code
       → ((M : Module) → Fine M → Bounded M → Holds M code L → y ≡ appended x (loaded_rest M arguments budget))
       → y ≡ appended w (replay tables code arguments budget ++ line_feed)
   unfolding numbered
-  loaded L e says b a =
+  loaded e says b a =
       let t = stands L says in
       let M = t.module_is in
       same w y _ _ (added_then w x y _ _ (rw e at first) (a M (fine tables code M b t.loads) (bounded tables code M t.loads) t.holds))

@@ -15,7 +15,7 @@ use crate::parts::{check_part, load_part, refused_rest, run_part};
 use checker::check;
 use line::text::Text;
 use loaded::Loaded;
-use loader::load;
+use loader::load_into;
 use loitsupar::numbered::numbered;
 use prepare::types;
 use runner::run;
@@ -110,10 +110,11 @@ pub fn answer(text: &mut Text, tables: &[u8], code: &[u8], arguments: &[u64], bu
     ensures same_buffer { text.new.out.ghost_name ≡ text.old.out.ghost_name }
     ensures text { text.new ≡ appended text.old (replay tables.now code.now arguments.now budget ++ line_feed) }
 {
-    let answer = load(tables, code);
+    let mut loaded = Loaded::default();
+    let answer = load_into(tables, code, &mut loaded);
     load_part(text, numbered(&answer));
     match answer {
-        Ok(loaded) => loaded_rest(text, &loaded, code, arguments, budget),
+        Ok(()) => loaded_rest(text, &loaded, code, arguments, budget),
         Err(refusal) => refused_rest(text, refusal),
     }
 }

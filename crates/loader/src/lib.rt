@@ -25,7 +25,8 @@ use crate::after_last::first_differing;
 use crate::notes::Notes;
 use crate::records::read_records;
 use crate::refusal::Refusal;
-use loaded::{Fault, Loaded};
+use loaded::columns::{CLASS_ROWS, FIELD, FIELD_ROWS, METHOD, METHOD_ROWS, PART};
+use loaded::{Counts, Fault, Loaded};
 
 // Whether the tables or the code are longer than they may be.
 fn too_long(tables: &[u8], code: &[u8]) -> bool
@@ -53,15 +54,33 @@ fn read_into(tables: &[u8], code: &[u8], loaded: &mut Loaded) -> Result<(), Faul
     }
 }
 
+// Whatever was in the module, all of it is 0 now.
+fn clear(loaded: &mut Loaded)
+    ensures { loaded.new ≡ nothing_of }
+{
+    loaded.counts = Counts {
+        classes: 0,
+        fields: 0,
+        statics: 0,
+        methods: 0,
+        entry: 0,
+    };
+    loaded.parents = [0u8; CLASS_ROWS];
+    loaded.initialisers = [0u8; CLASS_ROWS];
+    loaded.fields = [0u8; FIELD_ROWS * FIELD];
+    loaded.methods = [0u8; METHOD_ROWS * METHOD];
+    loaded.parts = [0usize; METHOD_ROWS * PART];
+}
+
 // Loads tables and code into a lent module, whatever it held; after a refusal all of it is 0.
 pub fn load_into(tables: &[u8], code: &[u8], loaded: &mut Loaded) -> Result<(), Fault>
     ensures { Answers (load_of tables.now code.now) result (loaded.new ≡ nothing_of) (λ u M. Holds M code.now loaded.new) }
 {
-    *loaded = Loaded::default();
+    clear(loaded);
     match read_into(tables, code, loaded) {
         Ok(()) => Ok(()),
         Err(refusal) => {
-            *loaded = Loaded::default();
+            clear(loaded);
             Err(refusal)
         }
     }

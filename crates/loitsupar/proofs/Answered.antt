@@ -10,7 +10,7 @@ use Rattle.model.specs.Loading.{Refusal, load}
 use Rattle.model.specs.Check.{Shapes, Fault as ModelFault, fault_in, check_module, check, found_at, shape_found}
 use Rattle.model.specs.Run.{run_module, run}
 use Rattle.model.proofs.Certificate.{check_module_lem}
-use Rattle.loaded.specs.Holds.{Holds}
+use Rattle.loaded.specs.Holds.{Holds, nothing}
 use Rattle.loaded.specs.declared.Fault.{Fault}
 use Rattle.loaded.specs.declared.Loaded.{Loaded}
 use Rattle.loader.specs.Answers.{Answers}
@@ -40,26 +40,26 @@ pub record Stands (tables code : List ℕ) (L : Loaded) : Type 0 where
   pub loads : load tables code ≡ ok module_is
   pub holds : Holds module_is code L
 
--- what loading says of its answer
-abbrev pub Says : List ℕ → List ℕ → Result Loaded Fault → Type 0
-Says tables code r = Answers (load tables code) r ⊤ (λ L M. Holds M code L)
+-- what loading says of its answer and of the module that it fills
+abbrev pub Says : List ℕ → List ℕ → Result ⊤ Fault → Loaded → Type 0
+Says tables code r L = Answers (load tables code) r (L ≡ nothing) (λ u M. Holds M code L)
 
 module _ {tables code : List ℕ} where
   -- a fault of loading is the model's refusal
-  pub refused : (a : Fault) → Says tables code (Err a) → Refused tables code a
+  pub refused : (L : Loaded) (a : Fault) → Says tables code (Err a) L → Refused tables code a
   unfolding Answers
-  refused a says = go (load tables code) refl says
+  refused L a says = go (load tables code) refl says
     where
-      go : (A : Answer Refusal Module) → load tables code ≡ A → Answers A (Err a) ⊤ (λ L M. Holds M code L) → Refused tables code a
+      go : (A : Answer Refusal Module) → load tables code ≡ A → Answers A (Err a) (L ≡ nothing) (λ (u : ⊤) M. Holds M code L) → Refused tables code a
       go (bad f) q s = record { refusal_is = f; refuses = q; same = s.0 }
       go (ok M) q s = absurd s
 
   -- behind what is loaded stands a module
-  pub stands : (L : Loaded) → Says tables code (Ok L) → Stands tables code L
+  pub stands : (L : Loaded) → Says tables code (Ok tt) L → Stands tables code L
   unfolding Answers
   stands L says = go (load tables code) refl says
     where
-      go : (A : Answer Refusal Module) → load tables code ≡ A → Answers A (Ok L) ⊤ (λ L M. Holds M code L) → Stands tables code L
+      go : (A : Answer Refusal Module) → load tables code ≡ A → Answers A (Ok tt) (L ≡ nothing) (λ (u : ⊤) M. Holds M code L) → Stands tables code L
       go (bad f) q s = absurd s
       go (ok M) q s = record { module_is = M; loads = q; holds = s }
 

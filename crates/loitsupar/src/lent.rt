@@ -3,7 +3,8 @@ ghost use Rattle.model.specs.Run.{run as run_of};
 ghost use Rattle.runner.specs.Answers.{Answers};
 ghost use Rattle.runner.specs.Playing.{ended_with};
 
-use loader::load;
+use loaded::Loaded;
+use loader::load_into;
 use runner::{Summary, run_lent};
 use state::State;
 
@@ -13,8 +14,9 @@ pub fn run(tables: &[u8], code: &[u8], arguments: &[u64], budget: u64, state: &m
     ensures { Answers (run_of tables.now code.now arguments.now budget) (ended_with result state.new) }
 {
     state.clear();
-    match load(tables, code) {
-        Ok(loaded) => run_lent(&loaded, code, arguments, budget, state),
+    let mut loaded = Loaded::default();
+    match load_into(tables, code, &mut loaded) {
+        Ok(()) => run_lent(&loaded, code, arguments, budget, state),
         Err(refusal) => Summary::refused(refusal.number, refusal.offset),
     }
 }

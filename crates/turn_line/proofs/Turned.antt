@@ -92,10 +92,10 @@ module _ (tables code : List ℕ) where
       go (ok l) q = run_told _ x ran
 
   -- a refusal of loading
-  pub refusal_line : (a : Fault) → Says tables code (Err a) → line_of_fault a ≡ line_of (play tables code)
-  refusal_line a says = not_passed a (not_checked (refused a says))
+  pub refusal_line : (L : Loaded) (a : Fault) → Says tables code (Err a) L → line_of_fault a ≡ line_of (play tables code)
+  refusal_line L a says = not_passed a (not_checked (refused L a says))
 
-  module _ (L : Loaded) (says : Says tables code (Ok L)) where
+  module _ (L : Loaded) (says : Says tables code (Ok tt) L) where
     -- a fault of the check
     pub fault_line_lem : (a : Fault) → ((M : Module) → Bounded M → Holds M code L → Answers (check_module M) (Err a)) → line_of_fault a ≡ line_of (play tables code)
     fault_line_lem a h = not_passed a (is_checked tables code (Err a) (checks (stands L says) (Err a) h))

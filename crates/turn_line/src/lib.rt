@@ -10,7 +10,8 @@ ghost use Rattle.line.specs.Append.{Alone};
 use checker::check;
 use line::input::{announced, code_of, tables_of};
 use line::line::{Value, line};
-use loader::load;
+use loaded::Loaded;
+use loader::load_into;
 use runner::run;
 
 // The steps of a run at most.
@@ -28,11 +29,12 @@ fn fault_line(number: u8, method: usize, offset: usize, out: &mut [u8; 128]) -> 
 fn played(tables: &[u8], code: &[u8], out: &mut [u8; 128]) -> usize
     ensures { Alone out.old (print (line_of (play tables.now code.now))) out.new result }
 {
-    let loaded = match load(tables, code) {
-        Ok(loaded) => loaded,
-        Err(refusal) => return fault_line(refusal.number, refusal.method, refusal.offset, out),
-    };
-    if let Err(fault) = check(&loaded, code) {
+    let mut loaded = Loaded::default();
+    if let Err(refusal) = load_into(tables, code, &mut loaded) {
+        return fault_line(refusal.number, refusal.method, refusal.offset, out);
+    }
+    let passed = check(&loaded, code);
+    if let Err(fault) = passed {
         return fault_line(fault.number, fault.method, fault.offset, out);
     }
     let none = [0u64; 0];

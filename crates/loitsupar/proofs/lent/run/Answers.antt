@@ -10,4 +10,4 @@ pub returns-in-Ok : goal.returns-in-Ok
 returns-in-Ok c = runs (stands _ c.in-Ok.ensures) (λ i. (c.type_inv.code i).fits) _ _ _ c.run_lent.ensures
 
 pub returns-in-Err : goal.returns-in-Err
-returns-in-Err c = not_run (refused _ c.in-Err.ensures) _ _ _ (rw c.clear.ensures c.refused.ensures)
+returns-in-Err c = not_run (refused _ _ c.in-Err.ensures) _ _ _ (rw c.clear.ensures c.refused.ensures)

@@ -3,15 +3,15 @@ use Rattle.std.proofs.lemmas.Result.{err_from_is_err_and}
 use Rattle.loitsupar.proofs.Answered.{refused, stands, not_checked, checks, is_checked, not_told, tells}
 use Rattle.loitsupar.proofs.telling.tell.Goals as goal
 
-pub returns-in_err-loaded : goal.returns-in_err-loaded
-returns-in_err-loaded c =
+pub returns-in_err-load_into : goal.returns-in_err-load_into
+returns-in_err-load_into c =
     let p = err_from_is_err_and c.from_residual.result c.from_residual.ensures.1 in
-    rw (p.1, p.2) (not_told _ _ _ (not_checked (refused _ c.in_err-loaded.ensures)) _ _)
+    rw (p.1, p.2) (not_told _ _ _ (not_checked (refused _ _ c.in_err-load_into.ensures)) _ _)
 
 pub returns-in_err-check : goal.returns-in_err-check
 returns-in_err-check c =
     let p = err_from_is_err_and c.from_residual-in_err-check.result c.from_residual-in_err-check.ensures.1 in
-    rw (p.1, p.2) (not_told _ _ _ (is_checked _ _ _ (checks (stands _ c.in_ok-loaded.ensures) _ c.in_err-check.ensures)) _ _)
+    rw (p.1, p.2) (not_told _ _ _ (is_checked _ _ _ (checks (stands _ c.in_ok-load_into.ensures) _ c.in_err-check.ensures)) _ _)
 
 pub returns : goal.returns
-returns c = let s = stands _ c.in_ok-loaded.ensures in tells _ _ s (checks s _ c.in_ok-check.ensures) _ _ _ c.tell.ensures
+returns c = let s = stands _ c.in_ok-load_into.ensures in tells _ _ s (checks s _ c.in_ok-check.ensures) _ _ _ c.tell.ensures
