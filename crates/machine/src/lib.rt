@@ -12,7 +12,7 @@ ghost use Rattle.machine.specs.Ending.{Sets, ended_by, Ends};
 use crossing::cross;
 use loaded::Loaded;
 use loaded::columns::{LENGTH, MAX_STACK, METHOD, PART};
-use prepare::prepare;
+use prepare::{Prepared, prepare};
 use same_frame::same_frame;
 use state::columns::{ON, STACK};
 use state::fit::wide;
@@ -59,13 +59,15 @@ fn body<'a>(code: &'a [u8], parts: &[usize; 258], row: usize) -> &'a [u8]
 pub fn steps(state: &mut State, loaded: &Loaded, code: &[u8], first: Moved, budget: u64) -> Stopped
     requires { Sets code.now loaded.now (work_of (regs_of first) state.old) }
     ensures result_range { (result.left ≤ budget) × (result.last.how ≡ 1 → 0 < result.left) }
+    ensures live { state.new.live ≡ state.old.live }
     ensures ends { ((M : Module) → Fine M → Holds M code.now loaded.now →
         let before = work_of (regs_of first) state.old in
         let after = work_of (regs_of result.last) state.new in
         Good M before → Ends M loaded.now.counts.methods budget before (ended_by loaded.now.methods budget result after)) }
 {
     let counts = loaded.counts;
-    let made = prepare(loaded);
+    let mut made = Prepared::new();
+    prepare(loaded, &mut made);
     let mut last = first;
     let mut left = budget;
     last.how = ON;

@@ -31,16 +31,28 @@ pub struct Prepared {
     pub chosen: [u8; 4257],
 }
 
-// The tables of a loaded module.
-pub fn prepare(loaded: &Loaded) -> Prepared
+impl Prepared {
+    // Tables in which all is 0.
+    pub fn new() -> Prepared
+        ensures no_kinds { result.variables ≡ replicate 4128 0 }
+        ensures no_sets { result.ancestors ≡ replicate 33 0 }
+        ensures nothing_chosen { result.chosen ≡ replicate 4257 0 }
+    {
+        Prepared {
+            variables: [0; 4128],
+            ancestors: [0; 33],
+            chosen: [0; 4257],
+        }
+    }
+}
+
+// The tables of a loaded module, in place of whatever `made` held.
+pub fn prepare(loaded: &Loaded, made: &mut Prepared)
     ensures { (M : Module) (code : List ℕ) → Fine M → Holds M code loaded.now
-        → HoldsMade M loaded.now result.variables result.ancestors result.chosen }
+        → HoldsMade M loaded.now made.new.variables made.new.ancestors made.new.chosen }
 {
-    let mut made = Prepared {
-        variables: [0; 4128],
-        ancestors: [0; 33],
-        chosen: [0; 4257],
-    };
+    made.ancestors = [0; 33];
+    made.chosen = [0; 4257];
     variables(loaded.counts, &loaded.methods, &mut made.variables);
     ancestors(loaded.counts, &loaded.parents, &mut made.ancestors);
     choices(
@@ -49,7 +61,6 @@ pub fn prepare(loaded: &Loaded) -> Prepared
         &loaded.methods,
         &mut made.chosen,
     );
-    made
 }
 
 // For each class the method of each root: its own, else what its parent has.

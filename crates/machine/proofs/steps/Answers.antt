@@ -36,7 +36,7 @@ pub loop-last-init : goal.loop-last-init
 loop-last-init c =
     let A = c.args in
     let S = c.requires in
-    (omega arith, (λ _. from_start (begins_so _ _ _ S (c.prepare-made.ensures S.module_is A.code.now S.fine S.holds)), λ n. absurd (n refl)))
+    (omega arith, (λ _. from_start (begins_so _ _ _ S (c.prepare.ensures S.module_is A.code.now S.fine S.holds)), (λ n. absurd (n refl), refl)))
 
 pub stay-y-requires : goal.stay-y-requires
 stay-y-requires c =
@@ -49,7 +49,7 @@ body-part-requires c =
 pub same_frame-s-requires : goal.same_frame-s-requires
 same_frame-s-requires c =
     let A = c.args in
-    let P = tables_in A.loaded.now c.prepare-made.result in
+    let P = tables_in A.loaded.now c.prepare.new.made in
     let l = c.loop-last in
     let g : Regs = regs_of l.last in
     let p : Place A.code.now P c.stay-y.result c.body-part.result.now g = place_of g c.stay-y.ensures c.body-part.ensures in
@@ -71,7 +71,7 @@ ends_late how h e = absurd (omega arith)
 pub loop-last-smaller-then-s-eq0 : goal.loop-last-smaller-then-s-eq0
 loop-last-smaller-then-s-eq0 c =
     let A = c.args in
-    let P = tables_in A.loaded.now c.prepare-made.result in
+    let P = tables_in A.loaded.now c.prepare.new.made in
     let l = c.loop-last in
     let g : Regs = regs_of l.last in
     let p : Place A.code.now P c.stay-y.result c.body-part.result.now g = place_of g c.stay-y.ensures c.body-part.ensures in
@@ -82,7 +82,7 @@ loop-last-smaller-then-s-eq0 c =
 pub loop-last-preserved-then-s-eq0 : goal.loop-last-preserved-then-s-eq0
 loop-last-preserved-then-s-eq0 c =
     let A = c.args in
-    let P = tables_in A.loaded.now c.prepare-made.result in
+    let P = tables_in A.loaded.now c.prepare.new.made in
     let l = c.loop-last in
     let g : Regs = regs_of l.last in
     let p : Place A.code.now P c.stay-y.result c.body-part.result.now g = place_of g c.stay-y.ensures c.body-part.ensures in
@@ -90,12 +90,12 @@ loop-last-preserved-then-s-eq0 c =
     let k = s.ensures.came A.code.now P (work_of g l.state) A.budget _ lent p l.invariant.0 (l.invariant.1.0 c.loop-last-test.true) in
     let few : s.result.left ≤ A.budget = omega (arith, s.ensures.left_at_most, l.invariant.0) in
     let z = c.if-s-eq0.true in
-    (few, (λ e. absurd (ends_late _ (k.late z) e), λ n. (halts_with _ _ _ _ (k.late z) ∙ k.stops z, λ e. absurd (omega (arith, k.late z, e)))))
+    (few, (λ e. absurd (ends_late _ (k.late z) e), (λ n. (halts_with _ _ _ _ (k.late z) ∙ k.stops z, λ e. absurd (omega (arith, k.late z, e))), l.invariant.1.1.1)))
 
 pub cross-r-requires : goal.cross-r-requires
 cross-r-requires c =
     let A = c.args in
-    let P = tables_in A.loaded.now c.prepare-made.result in
+    let P = tables_in A.loaded.now c.prepare.new.made in
     let l = c.loop-last in
     let g : Regs = regs_of l.last in
     let p : Place A.code.now P c.stay-y.result c.body-part.result.now g = place_of g c.stay-y.ensures c.body-part.ensures in
@@ -112,7 +112,7 @@ cross-r-requires c =
 pub overflow_sub-left : goal.overflow_sub-left
 overflow_sub-left c =
     let A = c.args in
-    let P = tables_in A.loaded.now c.prepare-made.result in
+    let P = tables_in A.loaded.now c.prepare.new.made in
     let l = c.loop-last in
     let g : Regs = regs_of l.last in
     let p : Place A.code.now P c.stay-y.result c.body-part.result.now g = place_of g c.stay-y.ensures c.body-part.ensures in
@@ -123,7 +123,7 @@ overflow_sub-left c =
 pub loop-last-smaller-then-r-eq-ON : goal.loop-last-smaller-then-r-eq-ON
 loop-last-smaller-then-r-eq-ON c =
     let A = c.args in
-    let P = tables_in A.loaded.now c.prepare-made.result in
+    let P = tables_in A.loaded.now c.prepare.new.made in
     let l = c.loop-last in
     let g : Regs = regs_of l.last in
     let p : Place A.code.now P c.stay-y.result c.body-part.result.now g = place_of g c.stay-y.ensures c.body-part.ensures in
@@ -137,7 +137,7 @@ loop-last-smaller-then-r-eq-ON c =
 pub loop-last-preserved-then-r-eq-ON : goal.loop-last-preserved-then-r-eq-ON
 loop-last-preserved-then-r-eq-ON c =
     let A = c.args in
-    let P = tables_in A.loaded.now c.prepare-made.result in
+    let P = tables_in A.loaded.now c.prepare.new.made in
     let l = c.loop-last in
     let g : Regs = regs_of l.last in
     let p : Place A.code.now P c.stay-y.result c.body-part.result.now g = place_of g c.stay-y.ensures c.body-part.ensures in
@@ -152,14 +152,14 @@ loop-last-preserved-then-r-eq-ON c =
       (
         λ _. one_less m.more few (omega arith)
             (goes _ k h n few m.crosses.inside _ _ _ _ (c.cross-r.ensures.leaves P after crossing_lent) c.if-r-eq-ON.true),
-        λ x. absurd (x c.if-r-eq-ON.true),
+        (λ x. absurd (x c.if-r-eq-ON.true), l.invariant.1.1.1),
       ),
     )
 
 pub loop-last-smaller : goal.loop-last-smaller
 loop-last-smaller c =
     let A = c.args in
-    let P = tables_in A.loaded.now c.prepare-made.result in
+    let P = tables_in A.loaded.now c.prepare.new.made in
     let l = c.loop-last in
     let g : Regs = regs_of l.last in
     let p : Place A.code.now P c.stay-y.result c.body-part.result.now g = place_of g c.stay-y.ensures c.body-part.ensures in
@@ -170,7 +170,7 @@ loop-last-smaller c =
 pub loop-last-preserved : goal.loop-last-preserved
 loop-last-preserved c =
     let A = c.args in
-    let P = tables_in A.loaded.now c.prepare-made.result in
+    let P = tables_in A.loaded.now c.prepare.new.made in
     let l = c.loop-last in
     let g : Regs = regs_of l.last in
     let p : Place A.code.now P c.stay-y.result c.body-part.result.now g = place_of g c.stay-y.ensures c.body-part.ensures in
@@ -184,10 +184,13 @@ loop-last-preserved c =
       few,
       (
         λ e. absurd (c.if-r-eq-ON.false e),
-        λ x. (
-          stops _ k h n few m.crosses.inside _ _ _ _ (c.cross-r.ensures.leaves P after crossing_lent)
-              _ (ap due_of_byte (due_is P after.regs h.stay_is)) x c.cross-r.ensures.never_result,
-          λ _. m.more,
+        (
+          λ x. (
+            stops _ k h n few m.crosses.inside _ _ _ _ (c.cross-r.ensures.leaves P after crossing_lent)
+                _ (ap due_of_byte (due_is P after.regs h.stay_is)) x c.cross-r.ensures.never_result,
+            λ _. m.more,
+          ),
+          l.invariant.1.1.1,
         ),
       ),
     )
@@ -196,8 +199,9 @@ pub returns : goal.returns
 unfolding tables_of ended_by ends_with
 returns c =
     let A = c.args in
-    let x = c.loop-last.invariant.1.1 c.loop-last-test.false in
+    let x = c.loop-last.invariant.1.1.0 c.loop-last-test.false in
     record {
       result_range = (c.loop-last.invariant.0, x.1);
-      ends = λ M fin hold good. ends M A.code.now A.loaded.now _ _ _ fin hold (c.prepare-made.ensures M A.code.now fin hold) A.budget _ good c.requires.bounded _ x.0;
+      live = c.loop-last.invariant.1.1.1;
+      ends = λ M fin hold good. ends M A.code.now A.loaded.now _ _ _ fin hold (c.prepare.ensures M A.code.now fin hold) A.budget _ good c.requires.bounded _ x.0;
     }
