@@ -138,33 +138,34 @@ admits (t ∷ ts) (a ∷ l) types i h e w =
 abbrev entry_params : Module → List Ty
 entry_params M = (method_at M.methods M.entry).params
 
-module _ (M : Module) (code : List ℕ) (L : Loaded) (given : List ℕ) (H : Holds M code L) (fine : Fine M) where
+module _ (M : Module) (code : List ℕ) (L : Loaded) (given : List ℕ) (H : Holds M code L) (fine : Fine M) {methods : List ℕ} {entry : ℕ}
+    (em : L.methods ≡ methods) (en : L.counts.entry ≡ entry) where
   params : arguments (method_at M.methods M.entry) ≡ entry_params M
   unfolding arguments this_of
   params = rw fine.entry_static
 
   abbrev count : ℕ
-  count = method_cell L.methods L.counts.entry 28
+  count = method_cell methods entry 28
 
   counted : count ≡ length (entry_params M)
-  counted = rw (H.entry_row, H.by_method.argument_count M.entry, params)
+  counted = rw (← em, ← en, H.entry_row, H.by_method.argument_count M.entry, params)
 
-  typed : count ≤ 8 → (n : ℕ) → n ≡ count → Typed (take n (drop (L.counts.entry * 32) L.methods)) 0 (entry_params M)
+  typed : count ≤ 8 → (n : ℕ) → n ≡ count → Typed (take n (drop (entry * 32) methods)) 0 (entry_params M)
   typed few n e j h =
       let q = counted in
       let k : j < n = omega arith in
       let z : 0 + j ≡ j = omega arith in
-      rw (z, get_or-take n (drop (L.counts.entry * 32) L.methods) j 0 k, get_or-drop (L.counts.entry * 32) L.methods j 0, H.entry_row)
+      rw (z, get_or-take n (drop (entry * 32) methods) j 0 k, get_or-drop (entry * 32) methods j 0, ← em, ← en, H.entry_row)
       (rw params at (H.by_method.argument_type M.entry j (omega (arith, ap length params))))
 
   pub miscounted : (length given ≡ count → ⊥) → admit (entry_params M) given ≡ none
   miscounted n = unequal (entry_params M) given (λ e. n (e ∙ sym counted))
 
   module _ (few : count ≤ 8) (n : length given ≡ count) (w : Words given) (m : ℕ) (e : m ≡ length given) where
-    pub turned_down : takes_all (take m (drop (L.counts.entry * 32) L.methods)) given 0 ≡ false → admit (entry_params M) given ≡ none
+    pub turned_down : takes_all (take m (drop (entry * 32) methods)) given 0 ≡ false → admit (entry_params M) given ≡ none
     unfolding only_if
     turned_down f = rw f at (admits (entry_params M) given _ 0 (typed few m (e ∙ n)) (n ∙ counted) w)
 
-    pub let_in : takes_all (take m (drop (L.counts.entry * 32) L.methods)) given 0 ≡ true → admit (entry_params M) given ≡ some (seen (entry_params M) given 0)
+    pub let_in : takes_all (take m (drop (entry * 32) methods)) given 0 ≡ true → admit (entry_params M) given ≡ some (seen (entry_params M) given 0)
     unfolding only_if
     let_in f = rw f at (admits (entry_params M) given _ 0 (typed few m (e ∙ n)) (n ∙ counted) w)

@@ -4,6 +4,7 @@ ghost use Rattle.std.proofs.Math.Option.{some};
 ghost use Rattle.model.specs.Answer.{pick, only_if};
 ghost use Rattle.model.specs.Tables.{Module, method_at};
 ghost use Rattle.model.specs.Run.{admit};
+ghost use Rattle.loaded.specs.declared.Loaded.{Loaded as Lists};
 ghost use Rattle.loaded.specs.Holds.{method_cell, Holds};
 ghost use Rattle.state.specs.View.{seen};
 ghost use Rattle.state.specs.Work.{copy_of};
@@ -52,7 +53,8 @@ pub fn admit(loaded: &Loaded, given: &[u64], state: &mut State) -> bool
     ensures state_is { state.new ≡ pick result
         (with_frames state.old (copy_of (method_cell loaded.now.methods loaded.now.counts.entry 28) given.now 0 0 state.old.cells) state.old.marks)
         state.old }
-    ensures as_model { ((M : Module) (code : List ℕ) → Holds M code loaded.now → Fine M
+    ensures as_model { ((M : Module) (code : List ℕ) (L : Lists) → Holds M code L → Fine M → L.methods ≡ loaded.now.methods
+        → L.counts.entry ≡ loaded.now.counts.entry
         → admit (method_at M.methods M.entry).params given.now
         ≡ only_if result (some (seen (method_at M.methods M.entry).params given.now 0))) }
 {
