@@ -1,7 +1,7 @@
 // The line that `turn` prints.
 ghost use Rattle.std.specs.Prelude.{◌≡◌};
 ghost use Rattle.model.specs.Turn.{text_of, print};
-ghost use Rattle.line.specs.Append.{appended, Alone};
+ghost use Rattle.line.specs.Append.{appended, Appended, Alone};
 ghost use Rattle.line.specs.Values.{value_of};
 
 use super::text::Text;
@@ -49,6 +49,23 @@ impl<'a> Text<'a> {
     }
 }
 
+// The line, after what `out` holds up to `at`.
+pub fn append_line(
+    out: &mut [u8],
+    at: usize,
+    ending: usize,
+    method: usize,
+    offset: usize,
+    steps: usize,
+    value: Value,
+) -> usize
+    ensures { Appended out.old at (print (record { ending = ending; method = method; offset = offset; steps = steps; value = value_of value })) out.new result }
+{
+    let mut text = Text::up_to(out, at);
+    text.line(ending, method, offset, steps, value);
+    text.end()
+}
+
 // The line alone, and how long it is.
 pub fn line(
     ending: usize,
@@ -61,7 +78,5 @@ pub fn line(
     ensures { Alone out.old (print (record { ending = ending; method = method; offset = offset; steps = steps; value = value_of value }))
         out.new result }
 {
-    let mut text = Text::up_to(out, 0);
-    text.line(ending, method, offset, steps, value);
-    text.end()
+    append_line(out, 0, ending, method, offset, steps, value)
 }
