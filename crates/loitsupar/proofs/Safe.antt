@@ -28,11 +28,11 @@ use Rattle.checker.proofs.Deep.{found_low}
 use Rattle.checker.proofs.Telling.{method_found, method_passed}
 use Rattle.runner.specs.Answers.{Answers, told, refused_by}
 use Rattle.runner.specs.declared.Ended.{Ended}
-use Rattle.loitsupar.specs.Public.{checked, told_of}
+use Rattle.loitsupar.specs.Public.{checked, told_of, numbered}
 use Rattle.checker.specs.declared.tell.Found.{Found}
 use Rattle.std.specs.Prelude.{Option, Result, Ok, Err, ⊤}
 use Rattle.loitsupar.proofs.Bounds.{bounded}
-use Rattle.loitsupar.proofs.Numbers.{refusal_numbered}
+use Rattle.loitsupar.proofs.Numbers.{fault_numbered, refusal_numbered}
 use Rattle.loitsupar.proofs.Sizes.{Sized, run_sized}
 use Rattle.loitsupar.proofs.InArrays.{StackTold, stack_told}
 
@@ -130,14 +130,17 @@ unfolding run run_module ◌>>=◌ need guard
 stopped tables code arguments k M vs s few l a p = rw (l, a, le-leb k most_budget few, passed k p)
 
 module _ (tables code arguments : List ℕ) (budget : ℕ) (f : Result ⊤ Fault) (r : Ended) (checks : f ≡ checked (check tables code))
-    (runs : Answers (run tables code arguments budget) r) (passes : f ≡ Ok tt) where
+    (runs : Answers (run tables code arguments budget) r) (passes : (numbered f).number ≡ 0) where
   -- the check found shapes
   shapes : (found : List Shapes) × (check tables code ≡ ok found)
-  unfolding checked fault_of
+  unfolding checked fault_of numbered
   shapes = go (check tables code) refl checks
     where
       go : (A : Answer ModelFault (List Shapes)) → check tables code ≡ A → f ≡ checked A → (found : List Shapes) × (check tables code ≡ ok found)
-      go (bad g) e q = let z : ◌≡◌ {A = Result ⊤ Fault} (Ok tt) (Err (fault_of g)) = sym passes ∙ q in absurd cc
+      go (bad g) e q =
+          let low = fault_numbered tables code g e in
+          let z : g.number ≡ 0 = sym (ap (λ (x : Result ⊤ Fault). (numbered x).number) q) ∙ passes in
+          absurd (omega arith)
       go (ok found) e q = (found, e)
 
   -- the run was refused, or made
