@@ -50,7 +50,7 @@ const FIELDS: usize = 128;
 const METHODS: usize = 128;
 
 // The type of an argument or local of a method, if it has one of that number.
-fn declared(
+pub fn declared(
     methods: &[u8; 4128],
     row: usize,
     column: usize,
@@ -64,8 +64,11 @@ fn declared(
     ensures { (ts : List Ty) → method_cell methods.now row column ≡ length ts → length ts ≤ most →
         Types methods.now (row * 32 + from) ts → Typed result (at ts i) }
 {
+    if most <= i {
+        return None;
+    }
     let start = row * METHOD;
-    if most.min(methods[start + column] as usize) <= i {
+    if usize::from(methods[start + column]) <= i {
         return None;
     }
     Some(methods[start + from + i])

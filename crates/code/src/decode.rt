@@ -15,11 +15,13 @@ fn operand(rest: &[u8], size: usize) -> u64
     requires size_inside { size ≤ length rest.now + 1 }
     ensures { result ≡ little (size - 1) rest.now }
 {
+    if size < 2 {
+        return 0;
+    }
     match size {
         2 => first::<1>(rest),
         5 => first::<4>(rest),
-        9 => first::<8>(rest),
-        _ => 0,
+        _ => first::<8>(rest),
     }
 }
 

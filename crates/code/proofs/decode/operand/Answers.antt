@@ -1,19 +1,21 @@
 -- `operand` meets its contract: just its bytes.
-use mathlib.Core.Path.{◌≡◌, refl}
-use mathlib.Core.List.{List}
+use mathlib.Core.Path.{◌≡◌, sym, ap, ◌∙◌}
 use Prim.Native.Nat.{ℕ, ◌-◌}
 use native.Mathlib.Omega.{arith}
 use Rattle.model.specs.Loading.{little}
-use Rattle.code.specs.Insn.{Length, no_bytes, one_byte, two_bytes, five_bytes, nine_bytes}
+use Rattle.code.proofs.Forms.{nine}
 use Rattle.code.proofs.decode.operand.Goals as goal
 
-none : (l : List ℕ) {s : ℕ} → Length s → (s ≡ 2 → ⊥) → (s ≡ 5 → ⊥) → (s ≡ 9 → ⊥) → 0 ≡ little (s - 1) l
+pub returns-then-size-lt2 : goal.returns-then-size-lt2
 unfolding little
-none l no_bytes a b d = refl
-none l one_byte a b d = refl
-none l two_bytes a b d = absurd (a refl)
-none l five_bytes a b d = absurd (b refl)
-none l nine_bytes a b d = absurd (d refl)
+returns-then-size-lt2 c =
+    let none : c.args.size - 1 ≡ 0 = omega arith in
+    sym (ap (λ (n : ℕ). little n c.args.rest.now) none)
+
+pub first-requires-in_default : goal.first-requires-in_default
+first-requires-in_default c = record { few = omega arith; there = omega (arith, nine c.requires.length c.if-size-lt2.false (λ e. omega (arith, e)) (λ e. omega (arith, e))) }
 
 pub returns-in_default : goal.returns-in_default
-returns-in_default c = none _ c.requires.length (λ e. omega (arith, e)) (λ e. omega (arith, e)) (λ e. omega (arith, e))
+returns-in_default c =
+    let e = nine c.requires.length c.if-size-lt2.false (λ e. omega (arith, e)) (λ e. omega (arith, e)) in
+    c.first-in_default.ensures.value ∙ sym (ap (λ (n : ℕ). little (n - 1) c.args.rest.now) e)
