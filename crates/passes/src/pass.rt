@@ -8,6 +8,7 @@ ghost use Rattle.model.specs.Check.{Site, decode_from, find_operands, check_meth
 ghost use Rattle.code.specs.Insn.{ins_of};
 ghost use Rattle.code.specs.Lengths.{Lengths};
 ghost use Rattle.shapes.specs.Pool.{pool, Fine};
+ghost use Rattle.check_operands.specs.Groups.{groups as group_table};
 ghost use Rattle.check_operands.specs.Held.{Held};
 ghost use Rattle.shapes.specs.Faults.{number};
 ghost use Rattle.visits.specs.Found.{Starts, Kept};
@@ -108,8 +109,8 @@ fn late(
     requires row_below { row < 129 }
     requires length_at_most { length code.now ≤ 1024 }
     requires reading { Reading code.now starts.now from }
-    ensures { (M : Module) (m : Method) (all l : List (Site Ins)) (max : ℕ) →
-        Held M m loaded.now.counts row max loaded.now.parents loaded.now.fields loaded.now.methods → m.code ≡ code.now →
+    ensures { (M : Module) (m : Method) (all l : List (Site Ins)) (max : ℕ) (parents : List ℕ) → tables.now.groups ≡ group_table →
+        Held M m loaded.now.counts row max parents loaded.now.fields loaded.now.methods → m.code ≡ code.now →
         Starts all (length code.now) starts.now → Rest code.now from l → Late result fault (find_operands M m all l) }
 {
     let mut at = from;
@@ -140,7 +141,7 @@ fn pass(
     requires length_at_most { length code.now ≤ 1024 }
     requires reading { Reading code.now notes.old.starts 0 }
     requires made { notes.old.pool.made ≡ 2 }
-    ensures { (M : Module) (m : Method) (all : List (Site Ins)) →
+    ensures { (M : Module) (m : Method) (all : List (Site Ins)) → tables.now.groups ≡ group_table →
         Held M m loaded.now.counts row max loaded.now.parents loaded.now.fields loaded.now.methods →
         m.code ≡ code.now → Starts all (length code.now) notes.old.starts → decode_from (length code.now) code.now 0 ≡ ok all →
         Fine notes.old.pool → Kept notes.old.pool (length code.now) (nothing (length code.now)) notes.old.found →
@@ -174,8 +175,9 @@ pub fn method(
     max: u8,
     code: &[u8],
 ) -> Result<(), FaultAt>
+    requires lengths { Lengths tables.now.lengths }
     requires row_below { row < 129 }
-    ensures { (M : Module) (m : Method) →
+    ensures { (M : Module) (m : Method) → tables.now.groups ≡ group_table →
         Held M m loaded.now.counts row max loaded.now.parents loaded.now.fields loaded.now.methods → m.code ≡ code.now →
         length code.now ≤ 1024 → Ready notes.old.found notes.old.pool →
         Tells result (check_method M m) ×

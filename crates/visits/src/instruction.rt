@@ -6,6 +6,7 @@ ghost use Rattle.model.specs.Code.{Ins};
 ghost use Rattle.model.specs.Check.{Shapes, Site};
 ghost use Rattle.code.specs.Insn.{ins_of};
 ghost use Rattle.shapes.specs.Pool.{pool, Fine};
+ghost use Rattle.check_operands.specs.Groups.{groups as group_table};
 ghost use Rattle.check_operands.specs.Held.{Held};
 ghost use Rattle.visits.specs.Found.{Starts, Kept};
 ghost use Rattle.visits.specs.Visits.{act_of, Visits};
@@ -38,7 +39,7 @@ pub fn visit(
     requires size_at_most { body.size ≤ 1024 }
     ensures starts_stay { notes.new.starts ≡ notes.old.starts }
     ensures made_at_most { notes.new.pool.made ≤ notes.old.pool.made + 1 }
-    ensures visits { ((M : Module) (m : Method) (all : List (Site Ins)) (F : Shapes) →
+    ensures visits { ((M : Module) (m : Method) (all : List (Site Ins)) (F : Shapes) → tables.now.groups ≡ group_table →
         Held M m loaded.now.counts body.row body.max loaded.now.parents loaded.now.fields loaded.now.methods →
         length m.code ≡ body.size → Starts all body.size notes.old.starts →
         Fine notes.old.pool → Kept notes.old.pool body.size F notes.old.found →
@@ -46,17 +47,7 @@ pub fn visit(
 {
     let g = group(&tables.groups, i.op);
     let s = shape_at(&mut notes.found, at);
-    if BR <= g {
-        return visit_branch(
-            &notes.starts,
-            &notes.pool,
-            &mut notes.found,
-            body.size,
-            s,
-            g,
-            i,
-        );
-    }
+    let op = i.op as usize;
     if g < CALL {
         let after = plain(
             &mut notes.pool,
@@ -67,23 +58,36 @@ pub fn visit(
             loaded.methods[body.row * METHOD + RETURN],
             body.max,
             g,
-            i.op as usize,
+            op,
             i.operand as usize,
         );
         return arrived(&notes.pool, &mut notes.found, body.size, i, g, after);
     }
-    let after = step(
-        &mut notes.pool,
-        loaded.counts,
-        &loaded.parents,
-        &loaded.fields,
-        &loaded.methods,
+    if g < BR {
+        let after = step(
+            &mut notes.pool,
+            loaded.counts,
+            &loaded.parents,
+            &loaded.fields,
+            &loaded.methods,
+            s,
+            body.max,
+            g,
+            i.operand,
+        );
+        return arrived(&notes.pool, &mut notes.found, body.size, i, g, after);
+    }
+    visit_branch(
+        &notes.starts,
+        &notes.pool,
+        &mut notes.found,
+        body.size,
         s,
-        body.max,
         g,
+        op,
+        i.next,
         i.operand,
-    );
-    arrived(&notes.pool, &mut notes.found, body.size, i, g, after)
+    )
 }
 
 // Whether an instruction has an operand fault, or a target that starts no instruction.
@@ -97,8 +101,8 @@ pub fn refused(
 ) -> bool
     requires row_below { row < 129 }
     requires size_at_most { size ≤ 1024 }
-    ensures { (M : Module) (m : Method) (all : List (Site Ins)) (max : ℕ) →
-        Held M m loaded.now.counts row max loaded.now.parents loaded.now.fields loaded.now.methods → length m.code ≡ size →
+    ensures { (M : Module) (m : Method) (all : List (Site Ins)) (max : ℕ) (parents : List ℕ) → tables.now.groups ≡ group_table →
+        Held M m loaded.now.counts row max parents loaded.now.fields loaded.now.methods → length m.code ≡ size →
         Starts all size starts.now → result ≡ is_none (act_of M m all (ins_of i)) }
 {
     let g = group(&tables.groups, i.op);

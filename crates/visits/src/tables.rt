@@ -8,12 +8,13 @@ ghost use Rattle.check_operands.specs.Groups.{groups as group_table};
 pub struct Tables {
     pub lengths: [u8; 256],
     pub groups: [u8; 256],
-    pub ghost right_lengths: { Lengths lengths },
-    pub ghost right_groups: { groups ≡ group_table },
 }
 
 impl Tables {
-    pub fn new() -> Tables {
+    pub fn new() -> Tables
+        ensures lengths { Lengths result.lengths }
+        ensures groups { result.groups ≡ group_table }
+    {
         Tables {
             lengths: code::lengths::table(),
             groups: check_operands::group::table(),

@@ -138,27 +138,29 @@ pub fn visit_branch(
     size: usize,
     s: usize,
     g: u8,
-    i: Insn,
+    op: usize,
+    next: usize,
+    d: u64,
 ) -> Result<(), FaultKind>
     requires size_at_most { size ≤ 1024 }
     requires made_below { pool.now.made < 2048 }
     requires s_below { s < 2048 }
     ensures { (all : List (Site Ins)) (F : Shapes) (S : Shape) → Starts all size starts.now →
         Fine pool.now → Kept pool.now size F found.old → Shows pool.now S s →
-        WentBy pool.now size result found.new (jumped size F (jump_by g) i.next S) (landing all size (target_by i.op i.next i.operand)) }
+        WentBy pool.now size result found.new (jumped size F (jump_by g) next S) (landing all size (target_by op next d)) }
 {
-    let Some(t) = lands(starts, size, i.op as usize, i.next, i.operand) else {
+    let Some(t) = lands(starts, size, op, next, d) else {
         return Err(FaultKind::Operand);
     };
     let r = branch(pool, s, g)?;
     if g == BR {
         return meets(pool, found, t, r);
     }
-    if size <= i.next {
+    if size <= next {
         meets(pool, found, t, r)?;
         return Err(FaultKind::FallsPast);
     }
-    meets(pool, found, i.next, r)?;
+    meets(pool, found, next, r)?;
     meets(pool, found, t, r)
 }
 

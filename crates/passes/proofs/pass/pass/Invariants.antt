@@ -1,6 +1,7 @@
 use Rattle.passes.proofs.Loops.{Going}
 use Rattle.passes.specs.Fused.{Reading, nothing}
 use Rattle.visits.specs.Found.{Starts, Kept}
+use Rattle.check_operands.specs.Groups.{groups as group_table}
 use Rattle.check_operands.specs.Held.{Held}
 use Rattle.shapes.specs.Pool.{Fine}
 use Rattle.model.specs.Check.{Site, decode_from}
@@ -16,7 +17,7 @@ use Rattle.passes.proofs.pass.pass.Given as goal
 abbrev pub invariant-loop-at : goal.invariant-loop-at
 invariant-loop-at l =
     (l.notes.pool.made ≤ l.at + 2) × Reading l.code l.notes.starts l.at × ((M : Module) (m : Method) (all : List (Site Ins))
-    → Held M m l.loaded.counts l.row l.max l.loaded.parents l.loaded.fields l.loaded.methods → m.code ≡ l.code
+    → l.tables.groups ≡ group_table → Held M m l.loaded.counts l.row l.max l.loaded.parents l.loaded.fields l.loaded.methods → m.code ≡ l.code
     → Starts all (length l.code) l.initial.notes.starts → decode_from (length l.code) l.code 0 ≡ ok all → Fine l.initial.notes.pool
     → Kept l.initial.notes.pool (length l.code) (nothing (length l.code)) l.initial.notes.found
     → Starts all (length l.code) l.notes.starts × Going M m all l.code l.notes.pool l.notes.found l.at)

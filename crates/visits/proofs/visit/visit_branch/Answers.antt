@@ -29,16 +29,16 @@ returns-in_err-meets c =
     let q = passed _ _ _ (c.in_ok-r.ensures.agrees S f w) in
     rw (p.1, p.2)
     (by_some _ _ _ _ _ _ _ d.0
-    (branch_last_failed _ _ F _ _ S _ _ q.shape q.is (falls_on _ c.if-g-eq-BR.false) _ c.if-size-i.true
+    (branch_last_failed _ _ F _ _ S _ _ q.shape q.is (falls_on _ c.if-g-eq-BR.false) _ c.if-size-next.true
     (c.in_err-meets.ensures _ F q.shape f k d.1 c.requires.size_at_most q.shows)))
 
-pub returns-then-size-i : goal.returns-then-size-i
-returns-then-size-i c =
+pub returns-then-size-next : goal.returns-then-size-next
+returns-then-size-next c =
     λ all F S m f k w.
     let d = landed _ _ _ _ (c.lands.ensures.lands all c.requires.size_at_most m) c.in-Some.is in
     let q = passed _ _ _ (c.in_ok-r.ensures.agrees S f w) in
     by_some _ _ _ _ _ _ _ d.0
-    (branch_last _ _ F _ _ S _ _ q.shape q.is (falls_on _ c.if-g-eq-BR.false) c.if-size-i.true
+    (branch_last _ _ F _ _ S _ _ q.shape q.is (falls_on _ c.if-g-eq-BR.false) c.if-size-next.true
     (c.in_ok-meets.ensures _ F q.shape f k d.1 c.requires.size_at_most q.shows))
 
 pub returns-in_err-meets-2 : goal.returns-in_err-meets-2
@@ -49,15 +49,15 @@ returns-in_err-meets-2 c =
     let q = passed _ _ _ (c.in_ok-r.ensures.agrees S f w) in
     rw (p.1, p.2)
     (by_some _ _ _ _ _ _ _ d.0
-    (branch_next_failed _ _ F _ _ S _ _ q.shape q.is (falls_on _ c.if-g-eq-BR.false) _ c.if-size-i.false
-    (c.in_err-meets-2.ensures _ F q.shape f k c.if-size-i.false c.requires.size_at_most q.shows)))
+    (branch_next_failed _ _ F _ _ S _ _ q.shape q.is (falls_on _ c.if-g-eq-BR.false) _ c.if-size-next.false
+    (c.in_err-meets-2.ensures _ F q.shape f k c.if-size-next.false c.requires.size_at_most q.shows)))
 
 pub returns : goal.returns
 returns c =
     λ all F S m f k w.
     let d = landed _ _ _ _ (c.lands.ensures.lands all c.requires.size_at_most m) c.in-Some.is in
     let q = passed _ _ _ (c.in_ok-r.ensures.agrees S f w) in
-    let a = arrived _ _ _ _ (c.in_ok-meets-2.ensures _ F q.shape f k c.if-size-i.false c.requires.size_at_most q.shows) in
+    let a = arrived _ _ _ _ (c.in_ok-meets-2.ensures _ F q.shape f k c.if-size-next.false c.requires.size_at_most q.shows) in
     by_some _ _ _ _ _ _ _ d.0
-    (branch_both _ _ F _ _ S _ _ q.shape q.is (falls_on _ c.if-g-eq-BR.false) _ a.found c.if-size-i.false a.is
+    (branch_both _ _ F _ _ S _ _ q.shape q.is (falls_on _ c.if-g-eq-BR.false) _ a.found c.if-size-next.false a.is
     (c.meets-3.ensures _ a.found q.shape f a.kept d.1 c.requires.size_at_most q.shows))
