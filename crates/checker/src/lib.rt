@@ -1,15 +1,17 @@
 // The check: methods by row, in each decoding, then operands and targets, then shapes by rising offset.
 #![tactic(auto)]
 
-ghost use Rattle.std.specs.Prelude.{◌≡◌, ◌≤◌, length, Ok};
+ghost use Rattle.std.specs.Prelude.{◌≡◌, List, ℕ, ◌≤◌, length, Ok};
 ghost use Rattle.std.proofs.Math.Option.{some};
 ghost use Rattle.model.specs.Answer.{row as row_in};
 ghost use Rattle.model.specs.Tables.{Method, Module};
 ghost use Rattle.model.specs.Check.{check_method, check_module};
+ghost use Rattle.code.specs.Lengths.{Lengths};
 ghost use Rattle.loaded.specs.Holds.{Holds};
+ghost use Rattle.check_operands.specs.Groups.{groups as group_table};
 ghost use Rattle.visits.specs.Notes.{Ready};
 ghost use Rattle.passes.specs.Fused.{Tells, Passing};
-ghost use Rattle.checker.specs.Answers.{Answers};
+ghost use Rattle.checker.specs.Answers.{Answers, lent};
 ghost use Rattle.checker.specs.Bounded.{Bounded};
 
 pub mod tell; // the shape found before an instruction
@@ -26,7 +28,7 @@ pub const MOST_METHODS: usize = 128;
 
 // Every method by row, up to the first fault.
 pub fn check(loaded: &Loaded, code: &[u8]) -> Result<(), Fault>
-    ensures { (M : Module) → Bounded M → Holds M code.now loaded.now → Answers (check_module M) result }
+    ensures { (M : Module) (initialisers : List ℕ) → Bounded M → Holds M code.now (lent loaded.now initialisers) → Answers (check_module M) result }
 {
     let tables = Tables::new();
     let mut notes = Notes::new();
@@ -46,9 +48,11 @@ fn method_at(
     tables: &Tables,
     notes: &mut Notes,
 ) -> Result<(), FaultAt>
-    requires { row ≤ 128 }
-    ensures { (M : Module) (m : Method) → Bounded M → Holds M code.now loaded.now → row_in M.methods row ≡ some m →
-        Ready notes.old.found notes.old.pool → Tells result (check_method M m) ×
+    requires lengths { Lengths tables.now.lengths }
+    requires groups { tables.now.groups ≡ group_table }
+    requires row_at_most { row ≤ 128 }
+    ensures { (M : Module) (m : Method) (initialisers : List ℕ) → Bounded M → Holds M code.now (lent loaded.now initialisers) →
+        row_in M.methods row ≡ some m → Ready notes.old.found notes.old.pool → Tells result (check_method M m) ×
         (result ≡ Ok tt → Passing (check_method M m) (length m.code) notes.new.found notes.new.pool) }
 {
     let offset = row * PART + OFFSET;

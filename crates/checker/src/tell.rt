@@ -1,5 +1,5 @@
 // The shape that the check found before an instruction.
-ghost use Rattle.std.specs.Prelude.{◌≡◌, List, ◌≤◌, ◌<◌, length, get_or};
+ghost use Rattle.std.specs.Prelude.{◌≡◌, List, ℕ, ◌≤◌, ◌<◌, length, get_or};
 ghost use Rattle.std.proofs.Math.Option.{none, some};
 ghost use Rattle.model.specs.Answer.{ok};
 ghost use Rattle.model.specs.Tables.{Module};
@@ -7,6 +7,7 @@ ghost use Rattle.model.specs.Check.{Shape, Shapes, check_module, found_at};
 ghost use Rattle.loaded.specs.Holds.{Holds};
 ghost use Rattle.shapes.specs.Pool.{Fine, Shows};
 ghost use Rattle.visits.specs.Found.{Kept};
+ghost use Rattle.checker.specs.Answers.{lent};
 ghost use Rattle.checker.specs.Bounded.{Bounded};
 ghost use Rattle.checker.specs.Told.{told};
 
@@ -60,8 +61,8 @@ fn found_at(notes: &Notes, size: usize, offset: usize) -> Option<Found>
 
 // The shape found before the instruction at an offset of the method at a row, in a module that passes; none where no instruction starts there.
 pub fn tell(loaded: &Loaded, code: &[u8], row: usize, offset: usize) -> Option<Found>
-    ensures { (M : Module) (found : List Shapes) → Bounded M → Holds M code.now loaded.now →
-        check_module M ≡ ok found → result ≡ told (found_at found row offset) }
+    ensures { (M : Module) (initialisers : List ℕ) (found : List Shapes) → Bounded M →
+        Holds M code.now (lent loaded.now initialisers) → check_module M ≡ ok found → result ≡ told (found_at found row offset) }
 {
     if row < 1 || loaded.counts.methods.min(MOST_METHODS) < row {
         return None;

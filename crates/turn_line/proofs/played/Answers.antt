@@ -8,7 +8,7 @@ returns-in-Err c = as_line (refusal_line _ _ _ _ c.in-Err.ensures) c.fault_line.
 
 pub returns-in-Err-passed : goal.returns-in-Err-passed
 returns-in-Err-passed c =
-    as_line (fault_line_lem _ _ _ c.in_default.ensures _ (λ M b h. rw c.in-Err-passed.is at (c.check-passed.ensures M b h)))
+    as_line (fault_line_lem _ _ _ c.in_default.ensures _ (λ M b h. rw c.in-Err-passed.is at (c.check-passed.ensures M _ b h)))
     c.fault_line-in-Err-passed.ensures
 
 pub run-e-requires : goal.run-e-requires
@@ -17,5 +17,5 @@ run-e-requires c = ready (stands _ c.in_default.ensures) (λ i. (c.type_inv.code
 pub returns : goal.returns
 returns c =
     as_line
-    (run_line _ _ _ c.in_default.ensures (λ M b h. rw c.in_default-passed.is at (c.check-passed.ensures M b h)) (λ i. (c.type_inv.code i).fits) c.run-e.result c.run-e.ensures)
+    (run_line _ _ _ c.in_default.ensures (λ M b h. rw c.in_default-passed.is at (c.check-passed.ensures M _ b h)) (λ i. (c.type_inv.code i).fits) c.run-e.result c.run-e.ensures)
     (rw c.from-number.ensures at c.line.ensures)

@@ -9,7 +9,7 @@ pub returns-then-refuses : goal.returns-then-refuses
 unfolding dash line_feed
 returns-then-refuses c =
     λ M fin bound hold.
-    refused_run M c.args.arguments.now c.args.budget _ (c.check.ensures M bound hold) c.run-e.result
+    refused_run M c.args.arguments.now c.args.budget _ (c.check.ensures M _ bound hold) c.run-e.result
     (c.run-e.ensures M fin hold) _ _ _ (rw c.numbered-found.ensures at c.check_part.ensures) c.run_part.ensures
     (sym c.refuses.ensures ∙ c.if-refuses.true) _ c.word.ensures
 
@@ -17,7 +17,7 @@ pub returns : goal.returns
 unfolding line_feed
 returns c =
     λ M fin bound hold.
-    ended_run M c.args.arguments.now c.args.budget _ (c.check.ensures M bound hold) c.run-e.result
+    ended_run M c.args.arguments.now c.args.budget _ (c.check.ensures M _ bound hold) c.run-e.result
     (c.run-e.ensures M fin hold) _ _ _ (rw c.numbered-found.ensures at c.check_part.ensures) c.run_part.ensures
     (sym c.refuses.ensures ∙ c.if-refuses.false)
     fin _ _ hold (λ i. (c.type_inv.arguments i).fits)
