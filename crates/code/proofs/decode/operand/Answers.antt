@@ -13,7 +13,9 @@ returns-then-size-lt2 c =
     sym (ap (λ (n : ℕ). little n c.args.rest.now) none)
 
 pub first-requires-in_default : goal.first-requires-in_default
-first-requires-in_default c = record { few = omega arith; there = omega (arith, nine c.requires.length c.if-size-lt2.false (λ e. omega (arith, e)) (λ e. omega (arith, e))) }
+first-requires-in_default c =
+    let e = nine c.requires.length c.if-size-lt2.false (λ e. omega (arith, e)) (λ e. omega (arith, e)) in
+    record { few = omega arith; there = omega (arith, e) }
 
 pub returns-in_default : goal.returns-in_default
 returns-in_default c =
