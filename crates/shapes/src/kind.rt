@@ -7,13 +7,13 @@ ghost use Rattle.shapes.specs.Kinds.{kind_is, is_integer, pairs, unary_by, given
 
 use super::numbers::{F, INT32, INT64};
 
-// What an operator sees of a type.
+// What an operator sees of a type, in the order of the types' bytes: the kind of a number's byte is that byte.
 #[derive(Clone, Copy, PartialEq, Eq)]
 pub enum Kind {
+    Reference,
     Int32,
     Int64,
     F,
-    Reference,
 }
 
 // The pairs of operands that operators take: two numbers, two integers, an integer and a shift's amount, two of one kind.
