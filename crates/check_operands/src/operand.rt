@@ -13,7 +13,7 @@ ghost use Rattle.check_operands.specs.Held.{Typed, Own, row_among};
 use code::operand::row_of;
 use loaded::columns::{ARGUMENT_COUNT, FIELD, LOCAL_COUNT, LOCALS, METHOD, SORT, STATIC};
 
-const MOST_LOCALS: usize = 16;
+pub const MOST_LOCALS: usize = 16;
 
 // Whether a field is static, as its row says.
 pub const INSTANCE: u8 = 0;
