@@ -3,7 +3,6 @@ use Prim.Native.Nat.{ℕ, ◌≤◌, ◌<◌}
 use mathlib.Core.Path.{◌≡◌, refl, sym, ap, ◌∙◌}
 use Rattle.std.specs.Prelude.{Option, Result, Ok, Err, ⊤}
 use mathlib.Core.List.{List}
-use native.Mathlib.Omega.{arith}
 use Rattle.model.specs.Answer.{Answer, bad, ok, ◌>>=◌, blame}
 use Rattle.model.specs.Tables.{Module}
 use Rattle.model.specs.Loading.{Refusal, load}

@@ -30,7 +30,7 @@ use Rattle.runner.specs.Answers.{Answers, told, refused_by}
 use Rattle.runner.specs.declared.Ended.{Ended}
 use Rattle.loitsupar.specs.Public.{checked, told_of, numbered}
 use Rattle.checker.specs.declared.tell.Found.{Found}
-use Rattle.std.specs.Prelude.{Option, Result, Ok, Err, ⊤}
+use Rattle.std.specs.Prelude.{Option, Result, ⊤}
 use Rattle.loitsupar.proofs.Bounds.{bounded}
 use Rattle.loitsupar.proofs.Numbers.{fault_numbered, refusal_numbered}
 use Rattle.loitsupar.proofs.Sizes.{Sized, run_sized}
